@@ -1,0 +1,4 @@
+pub mod Width
+pub mod Eflags
+pub mod Registers
+pub mod Bus

@@ -1,0 +1,168 @@
+// The flags.
+ghost use Rattle.std.specs.Prelude.{◌≡◌};
+ghost use Rattle.cpu_state.specs.Eflags.{flags_of, word_of, weight as weight_of};
+
+use bitflags::{Flag, Flags};
+
+/// The flags that are kept of EFLAGS (Intel 80386 manual, section 2.3.4). In the word of EFLAGS they are the bits 0, 2,
+/// 4, 6, 7, 9, 10 and 11; bit 1 is always set, and all others are clear.
+#[derive(Clone, Copy, PartialEq, Eq, Debug)]
+pub struct Eflags {
+    pub carry: bool,
+    pub parity: bool,
+    pub adjust: bool,
+    pub zero: bool,
+    pub sign: bool,
+    pub interrupt: bool,
+    pub direction: bool,
+    pub overflow: bool,
+}
+
+/// The bits of the flags in the word.
+const CARRY_BIT: u32 = 1 << 0;
+
+const RESERVED_BIT: u32 = 1 << 1;
+
+const PARITY_BIT: u32 = 1 << 2;
+
+const ADJUST_BIT: u32 = 1 << 4;
+
+const ZERO_BIT: u32 = 1 << 6;
+
+const SIGN_BIT: u32 = 1 << 7;
+
+const INTERRUPT_BIT: u32 = 1 << 9;
+
+const DIRECTION_BIT: u32 = 1 << 10;
+
+const OVERFLOW_BIT: u32 = 1 << 11;
+
+// What a flag is worth in the word.
+fn weight(flag: bool, bit: u32) -> u32
+    ensures { result ≡ weight_of flag bit }
+{
+    if flag { bit } else { 0 }
+}
+
+impl Eflags {
+    /// The flags of a word.
+    pub fn from_word(word: u32) -> Eflags
+        ensures { result ≡ flags_of word }
+    {
+        Eflags {
+            carry: word / CARRY_BIT % 2 == 1,
+            parity: word / PARITY_BIT % 2 == 1,
+            adjust: word / ADJUST_BIT % 2 == 1,
+            zero: word / ZERO_BIT % 2 == 1,
+            sign: word / SIGN_BIT % 2 == 1,
+            interrupt: word / INTERRUPT_BIT % 2 == 1,
+            direction: word / DIRECTION_BIT % 2 == 1,
+            overflow: word / OVERFLOW_BIT % 2 == 1,
+        }
+    }
+
+    /// The word of the flags.
+    pub fn word(self) -> u32
+        ensures { result ≡ word_of self }
+    {
+        RESERVED_BIT
+            + weight(self.carry, CARRY_BIT)
+            + weight(self.parity, PARITY_BIT)
+            + weight(self.adjust, ADJUST_BIT)
+            + weight(self.zero, ZERO_BIT)
+            + weight(self.sign, SIGN_BIT)
+            + weight(self.interrupt, INTERRUPT_BIT)
+            + weight(self.direction, DIRECTION_BIT)
+            + weight(self.overflow, OVERFLOW_BIT)
+    }
+
+    const NONE: Eflags = Eflags {
+        carry: false,
+        parity: false,
+        adjust: false,
+        zero: false,
+        sign: false,
+        interrupt: false,
+        direction: false,
+        overflow: false,
+    };
+
+    pub const FLAGS: &'static [Flag<Eflags>] = &[
+        Flag {
+            name: "CF",
+            value: Eflags {
+                carry: true,
+                ..Eflags::NONE
+            },
+        },
+        Flag {
+            name: "PF",
+            value: Eflags {
+                parity: true,
+                ..Eflags::NONE
+            },
+        },
+        Flag {
+            name: "AF",
+            value: Eflags {
+                adjust: true,
+                ..Eflags::NONE
+            },
+        },
+        Flag {
+            name: "ZF",
+            value: Eflags {
+                zero: true,
+                ..Eflags::NONE
+            },
+        },
+        Flag {
+            name: "SF",
+            value: Eflags {
+                sign: true,
+                ..Eflags::NONE
+            },
+        },
+        Flag {
+            name: "IF",
+            value: Eflags {
+                interrupt: true,
+                ..Eflags::NONE
+            },
+        },
+        Flag {
+            name: "DF",
+            value: Eflags {
+                direction: true,
+                ..Eflags::NONE
+            },
+        },
+        Flag {
+            name: "OF",
+            value: Eflags {
+                overflow: true,
+                ..Eflags::NONE
+            },
+        },
+    ];
+}
+
+impl Flags for Eflags {
+    type Bits = u32;
+
+    fn flags<'a>() -> &'a [Flag<Eflags>] {
+        Eflags::FLAGS
+    }
+
+    fn bits(&self) -> u32
+        ensures { result ≡ word_of self.now }
+    {
+        self.word()
+    }
+
+    fn from_bits_retain(bits: u32) -> Eflags
+        ensures { result ≡ flags_of bits }
+    {
+        Eflags::from_word(bits)
+    }
+}

@@ -1,0 +1,14 @@
+//! The state of an i386 processor, and the bus over which it reaches memory and devices.
+#![tactic(auto)]
+
+mod bus;
+mod eflags;
+mod op;
+mod registers;
+mod width;
+
+pub use bus::Bus;
+pub use eflags::Eflags;
+pub use op::Op;
+pub use registers::{Access, Context, Privileged, Registers};
+pub use width::Width;
