@@ -1,4 +1,4 @@
-// A store over pairs of a name and bytes, for tests. It fails at the fetches that it was told.
+// The store in memory.
 ghost use Rattle.std.specs.Prelude.{◌≡◌, ◌≤◌, ◌||◌, ◌↔◌, ◌+◌, ℕ, List, [], length, Option, Some, None, IsTrue, IsErrOf, IfOk, IfErr, is_none, take, MatchOption, option_copied, min, ◌-◌, ◌^◌};
 ghost use Rattle.outside_io.specs.Memory.{content_of, file_of, is_named, same_bytes};
 ghost use Rattle.outside_io.specs.Causes.{Rose};
@@ -7,6 +7,8 @@ ghost use Rattle.outside_io.specs.Store.{Fetches};
 use crate::{Content, Fetched, Store, StoreFault};
 use std::alloc::Global;
 
+/// A store over pairs of a name and bytes, for tests: it fails at the fetches that it was told, and at names that it
+/// doesn't hold.
 #[derive(Drop)]
 pub struct MemoryStore {
     files: Vec<(String, Vec<u8>)>,
@@ -19,15 +21,16 @@ pub struct MemoryStore {
 }
 
 impl MemoryStore {
-    ghost use Rattle.outside_io.specs.MemoryStore.{files_of};
+    ghost use Rattle.outside_io.specs.MemoryStore.{files_of, failing_numbers, fetch_count, fault_count, last_failed};
 
-    /// A store of these pairs, which fails at the fetches of these numbers, counted from 1.
+    /// A store of these pairs, of which the first of a name counts. It fails at the fetches of these numbers, counted
+    /// from 1.
     pub fn new(files: Vec<(String, Vec<u8>)>, failing: Vec<u32>) -> MemoryStore
         ensures files { files_of result ≡ content_of files.items }
-        ensures failing { result.failing.items ≡ failing.items }
-        ensures fetches { result.fetches ≡ 0 }
-        ensures faults { result.faults ≡ 0 }
-        ensures last { take result.last_len result.last ≡ [] }
+        ensures failing { failing_numbers result ≡ failing.items }
+        ensures fetches { fetch_count result ≡ 0 }
+        ensures faults { fault_count result ≡ 0 }
+        ensures last { last_failed result ≡ [] }
     {
         MemoryStore {
             files,
@@ -43,12 +46,12 @@ impl MemoryStore {
     fn fail(&mut self, name: &str) -> StoreFault
         requires { length name.now ≤ 255 }
         ensures answer { result ≡ StoreFault.Failed }
-        ensures files { self.new.files ≡ self.old.files }
-        ensures rose { Rose self.old.faults self.new.faults }
-        ensures later { self.old.faults ≤ self.new.faults }
-        ensures name { take self.new.last_len self.new.last ≡ name.now }
-        ensures failing { self.new.failing ≡ self.old.failing }
-        ensures fetches { self.new.fetches ≡ self.old.fetches }
+        ensures files { files_of self.new ≡ files_of self.old }
+        ensures rose { Rose (fault_count self.old) (fault_count self.new) }
+        ensures later { fault_count self.old ≤ fault_count self.new }
+        ensures name { last_failed self.new ≡ name.now }
+        ensures failing { failing_numbers self.new ≡ failing_numbers self.old }
+        ensures fetches { fetch_count self.new ≡ fetch_count self.old }
     {
         self.faults = self.faults.saturating_add(1);
         self.last_len = keep_name(&mut self.last, name.as_bytes());
@@ -91,25 +94,24 @@ fn keep_name(last: &mut [u8; 255], name: &[u8]) -> usize
 impl Store for MemoryStore {
     ghost use Rattle.std.specs.Prelude.{◌≡◌, ◌≤◌, ◌||◌, ◌↔◌, ◌+◌, ◌-◌, ◌^◌, min, length, IsTrue, IsErrOf, is_none};
     ghost use Rattle.outside_io.specs.Store.{TellsHeld, FetchCause};
-    ghost use Rattle.outside_io.specs.MemoryStore.{fails_next};
-    ghost use Rattle.std.specs.Prelude.{Some, take};
-    ghost use Rattle.outside_io.specs.Memory.{content_of};
+    ghost use Rattle.outside_io.specs.MemoryStore.{files_of, failing_numbers, fetch_count, fault_count, last_failed, fails_next};
+    ghost use Rattle.std.specs.Prelude.{Some};
 
-    ghost held = { λ store. Some (content_of store.files.items) };
+    ghost held = { λ store. Some (files_of store) };
 
-    ghost faults = { λ store. store.faults };
+    ghost faults = { λ store. fault_count store };
 
-    ghost failed_last = { λ store. take store.last_len store.last };
+    ghost failed_last = { λ store. last_failed store };
 
     fn fetch(&mut self, alloc: Global, name: &str, limit: u32) -> Result<Fetched, StoreFault>
         requires some { 1 ≤ length name.now }
         requires short { length name.now ≤ 255 }
-        ensures told { TellsHeld (Some (content_of self.old.files.items)) name.now limit result }
-        ensures stays { Some (content_of self.new.files.items) ≡ Some (content_of self.old.files.items) }
-        ensures cause { FetchCause self.old.faults self.new.faults (take self.old.last_len self.old.last) (take self.new.last_len self.new.last) name.now result }
-        ensures exact { IsErrOf result StoreFault.Failed ↔ IsTrue (fails_next self.old || is_none (content_of self.old.files.items name.now)) }
-        ensures failing { self.new.failing.items ≡ self.old.failing.items }
-        ensures counted { self.new.fetches ≡ min (self.old.fetches + 1) (2 ^ 32 - 1) }
+        ensures told { TellsHeld (Some (files_of self.old)) name.now limit result }
+        ensures stays { Some (files_of self.new) ≡ Some (files_of self.old) }
+        ensures cause { FetchCause (fault_count self.old) (fault_count self.new) (last_failed self.old) (last_failed self.new) name.now result }
+        ensures exact { IsErrOf result StoreFault.Failed ↔ IsTrue (fails_next self.old || is_none (files_of self.old name.now)) }
+        ensures failing { failing_numbers self.new ≡ failing_numbers self.old }
+        ensures counted { fetch_count self.new ≡ min (fetch_count self.old + 1) (2 ^ 32 - 1) }
     {
         let fails = self.fetches < u32::MAX
             && is_failing(self.failing.as_slice(), self.fetches + 1);

@@ -1,4 +1,4 @@
-// A store of named files.
+// A store.
 ghost use Rattle.std.specs.Prelude.{◌≡◌, ◌≤◌, ℕ, List, length, Option};
 ghost use Rattle.outside_io.specs.Store.{Files, TellsHeld, FetchCause};
 
@@ -8,16 +8,23 @@ use std::alloc::Global;
 /// What a fetch got.
 #[derive(Drop)]
 pub enum Fetched {
+    /// All that the name holds.
     Bytes(Content),
+    /// The name holds more bytes than the limit.
     Larger,
 }
 
+/// Why a fetch got nothing.
 #[derive(Clone, Copy, Debug, PartialEq, Eq)]
 pub enum StoreFault {
+    /// The name holds nothing, or what is outside failed.
     Failed,
+    /// Memory was refused.
     NoMemory,
 }
 
+/// A store of named files. Its meanings: what each name holds, which it may leave untold; a count of faults that never
+/// falls, up to the greatest `u64`; and the name that failed last.
 pub trait Store {
     /// What each name holds, where the store tells.
     ghost held: { Self → Option Files };
@@ -28,7 +35,9 @@ pub trait Store {
     /// The name that failed last, and nothing at first.
     ghost failed_last: { Self → List ℕ };
 
-    /// The bytes that a name holds, if they are no more than `limit`.
+    /// The bytes that a name of 1 to 255 bytes holds, where they are no more than `limit`. `Failed` comes only where the
+    /// count of faults rose, and then this name is the one that failed last; no other answer changes either. A name that
+    /// holds nothing is never answered `Ok`, and what is held stays.
     fn fetch(&mut self, alloc: Global, name: &str, limit: u32) -> Result<Fetched, StoreFault>
         requires some { 1 ≤ length name.now }
         requires short { length name.now ≤ 255 }

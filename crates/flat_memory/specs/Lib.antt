@@ -1,0 +1,4 @@
+pub mod Side
+pub mod Parts
+pub mod Lent
+pub mod Zeros
