@@ -1,0 +1,20 @@
+-- What a unit of the guest comes to, from what the processor's unit came to.
+use Rattle.std.specs.Prelude.{ℕ, nat_lt, if◌then◌else◌}
+use Rattle.i386_execute.specs.declared.unit.Stepped.{Stepped}
+use Rattle.i386_execute.specs.declared.unit.Stepped.TheVariants.{Next as Performed, Trap, Interrupt, Privileged as PrivilegedUse, Outside as OutsideAccess, Port as OwnedPort}
+use Rattle.breach_monitor.specs.declared.guest.Breach.TheVariants.{Privileged, Int, Port, Outside}
+use Rattle.breach_monitor.specs.declared.guest.GuestUnit.{GuestUnit}
+use Rattle.breach_monitor.specs.declared.guest.GuestUnit.TheVariants.{Next, Enter, Breach}
+
+-- vectors F7h to FFh are breaches
+abbrev pub interrupted : ℕ → ℕ → GuestUnit
+interrupted vector next = if nat_lt vector 247 then Enter vector next else Breach (Int vector)
+
+-- a trap pushes the EIP of the instruction, an interrupt that of the next one
+abbrev pub answer_to : ℕ → ℕ → Stepped → GuestUnit
+answer_to eip next Performed = Next
+answer_to eip next (Trap vector) = Enter vector eip
+answer_to eip next (Interrupt vector) = interrupted vector next
+answer_to eip next (PrivilegedUse kind size) = Breach (Privileged kind)
+answer_to eip next (OutsideAccess access at) = Breach (Outside access at)
+answer_to eip next (OwnedPort port) = Breach (Port port)

@@ -1,0 +1,2 @@
+pub mod GuestBus
+pub mod GuestUnit

@@ -1,0 +1,76 @@
+// The guest's unit.
+ghost use Rattle.std.specs.Prelude.{◌≡◌};
+ghost use Rattle.i386_execute.specs.Unit.{unit, address_behind};
+ghost use Rattle.breach_monitor.specs.GuestBus.{no_ports, guest_state};
+ghost use Rattle.breach_monitor.specs.GuestUnit.{answer_to, interrupted};
+
+use crate::GuestBus;
+use cpu_state::{Access, Privileged, Registers};
+use i386_execute::{Stepped, after, step};
+
+/// What the guest did that it may not do.
+#[derive(Clone, Copy, Debug, PartialEq, Eq)]
+pub enum Breach {
+    /// a hard instruction on the interrupt flag, or HLT
+    Privileged(Privileged),
+    /// an interrupt of this vector, F7h to FFh
+    Int(u8),
+    /// a port of another owner: the first port of the access
+    Port(u16),
+    /// the first access outside its side, and the address
+    Outside(Access, u32),
+}
+
+/// What a unit of the guest comes to. Only in the first case anything was changed by it.
+#[derive(Clone, Copy, Debug, PartialEq, Eq)]
+pub enum GuestUnit {
+    /// The unit was performed.
+    Next,
+    /// A trap or an interrupt of this vector is to be entered, and this EIP to be pushed.
+    Enter(u8, u32),
+    /// The guest is to be stopped for good.
+    Breach(Breach),
+}
+
+/// The first of the vectors, up to the greatest, that no guest may use.
+const FIRST_BREACH: u8 = 0xf7;
+
+fn interrupted(vector: u8, next: u32) -> GuestUnit
+    ensures { result ≡ interrupted vector next }
+{
+    if vector < FIRST_BREACH {
+        GuestUnit::Enter(vector, next)
+    } else {
+        GuestUnit::Breach(Breach::Int(vector))
+    }
+}
+
+/// One unit of the guest: the instruction at EIP, or the first breach in the order of the fetch, privileged use, a vector
+/// that no guest may use, a port of another owner, and the first access outside.
+pub fn guest_unit(regs: &mut Registers, bus: &mut GuestBus<'_>) -> GuestUnit
+    ensures same_loan { bus.new.bytes.ghost_name ≡ bus.old.bytes.ghost_name }
+    ensures answer { let st = guest_state bus.old.first bus.old.bytes.now in result ≡ answer_to regs.old.eip (address_behind regs.old st.side) (unit no_ports regs.old st).stepped }
+    ensures registers { regs.new ≡ (unit no_ports regs.old (guest_state bus.old.first bus.old.bytes.now)).registers }
+    ensures state { guest_state bus.new.first bus.new.bytes.now ≡ (unit no_ports regs.old (guest_state bus.old.first bus.old.bytes.now)).bus }
+{
+    let eip = regs.eip;
+    let next = after(regs, bus);
+    match step(regs, bus) {
+        Stepped::Next => GuestUnit::Next,
+        Stepped::Trap(vector) => GuestUnit::Enter(vector, eip),
+        Stepped::Interrupt(vector) => interrupted(vector, next),
+        Stepped::Privileged(kind, _) => GuestUnit::Breach(Breach::Privileged(kind)),
+        Stepped::Outside(access, at) => GuestUnit::Breach(Breach::Outside(access, at)),
+        Stepped::Port(port) => GuestUnit::Breach(Breach::Port(port)),
+    }
+}
+
+/// One unit of the guest over bytes that are lent, of which the first stands at address 0.
+pub fn guest_unit_on(regs: &mut Registers, memory: &mut [u8]) -> GuestUnit
+    ensures answer { let st = guest_state 0 memory.old in result ≡ answer_to regs.old.eip (address_behind regs.old st.side) (unit no_ports regs.old st).stepped }
+    ensures registers { regs.new ≡ (unit no_ports regs.old (guest_state 0 memory.old)).registers }
+    ensures memory { memory.new ≡ (unit no_ports regs.old (guest_state 0 memory.old)).bus.side.bytes }
+{
+    let mut bus = GuestBus::new(0, memory);
+    guest_unit(regs, &mut bus)
+}
