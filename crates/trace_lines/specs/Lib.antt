@@ -1,0 +1,2 @@
+pub mod TickLines
+pub mod Text
