@@ -1,0 +1,4 @@
+pub mod State
+pub mod Unit
+pub mod Run
+pub mod Laws

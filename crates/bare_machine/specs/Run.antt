@@ -1,0 +1,31 @@
+-- A run of the bare machine beside given real-time lines.
+use Rattle.std.specs.Prelude.{ℕ, suc, zero, Bool, List, [], ◌∷◌, ◌++◌, if◌then◌else◌}
+use Rattle.cpu_state.specs.Eflags.{word_of}
+use Rattle.trace_lines.specs.declared.lines.GLine.{GLine}
+use Rattle.trace_lines.specs.declared.lines.GLine.TheVariants.{End}
+use Rattle.trace_lines.specs.declared.lines.RLine.{RLine}
+use Rattle.run_lines.specs.Holder.{holder, is_guest}
+use Rattle.run_lines.specs.Ticks.{lines_to}
+use Rattle.bare_machine.specs.State.{Bare, GuestStart, Outcome, first_state}
+use Rattle.bare_machine.specs.Unit.{guest_unit, still}
+
+-- a tick, in which the guest holds the processor or not
+abbrev pub bare_tick : Bool → Bare → Outcome
+bare_tick holds b = if holds then guest_unit b else still b
+
+-- the state after n ticks
+unfoldable pub bare_after : GuestStart → List (ℕ × RLine) → ℕ → Bare
+bare_after start r zero = first_state start
+bare_after start r (suc n) = (bare_tick (is_guest (holder (suc n) r)) (bare_after start r n)).after
+
+-- the lines of the tick after n ticks
+unfoldable pub bare_lines : GuestStart → List (ℕ × RLine) → ℕ → List GLine
+bare_lines start r n = (bare_tick (is_guest (holder (suc n) r)) (bare_after start r n)).lines
+
+-- the first end line: the mode, then EIP, EFLAGS and the general registers
+abbrev pub end_line : Bare → GLine
+end_line b = End b.mode (b.registers.eip ∷ word_of b.registers.eflags ∷ b.registers.general)
+
+-- the lines of ticks 1 to n
+abbrev pub bare_run : GuestStart → List (ℕ × RLine) → ℕ → List (ℕ × GLine)
+bare_run start r n = lines_to (bare_lines start r) n
