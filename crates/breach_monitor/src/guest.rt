@@ -1,5 +1,5 @@
 // The guest's unit.
-ghost use Rattle.std.specs.Prelude.{◌≡◌};
+ghost use Rattle.std.specs.Prelude.{◌≡◌, ◌≢◌};
 ghost use Rattle.i386_execute.specs.Unit.{unit, address_behind};
 ghost use Rattle.breach_monitor.specs.GuestBus.{no_ports, guest_state};
 ghost use Rattle.breach_monitor.specs.GuestUnit.{answer_to, interrupted};
@@ -52,6 +52,8 @@ pub fn guest_unit(regs: &mut Registers, bus: &mut GuestBus<'_>) -> GuestUnit
     ensures answer { let st = guest_state bus.old.first bus.old.bytes.now in result ≡ answer_to regs.old.eip (address_behind regs.old st.side) (unit no_ports regs.old st).stepped }
     ensures registers { regs.new ≡ (unit no_ports regs.old (guest_state bus.old.first bus.old.bytes.now)).registers }
     ensures state { guest_state bus.new.first bus.new.bytes.now ≡ (unit no_ports regs.old (guest_state bus.old.first bus.old.bytes.now)).bus }
+    ensures unchanged { result ≢ GuestUnit.Next → (regs.new ≡ regs.old) × (bus.new.bytes.now ≡ bus.old.bytes.now) }
+    ensures place { bus.new.first ≡ bus.old.first }
 {
     let eip = regs.eip;
     let next = after(regs, bus);
@@ -69,7 +71,8 @@ pub fn guest_unit(regs: &mut Registers, bus: &mut GuestBus<'_>) -> GuestUnit
 pub fn guest_unit_on(regs: &mut Registers, memory: &mut [u8]) -> GuestUnit
     ensures answer { let st = guest_state 0 memory.old in result ≡ answer_to regs.old.eip (address_behind regs.old st.side) (unit no_ports regs.old st).stepped }
     ensures registers { regs.new ≡ (unit no_ports regs.old (guest_state 0 memory.old)).registers }
-    ensures memory { memory.new ≡ (unit no_ports regs.old (guest_state 0 memory.old)).bus.side.bytes }
+    ensures state { guest_state 0 memory.new ≡ (unit no_ports regs.old (guest_state 0 memory.old)).bus }
+    ensures unchanged { result ≢ GuestUnit.Next → (regs.new ≡ regs.old) × (memory.new ≡ memory.old) }
 {
     let mut bus = GuestBus::new(0, memory);
     guest_unit(regs, &mut bus)

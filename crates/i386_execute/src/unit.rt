@@ -1,5 +1,6 @@
 // One unit.
-ghost use Rattle.std.specs.Prelude.{◌≡◌, ◌<◌, ◌+◌, ◌%◌, ◌^◌, length};
+ghost use Rattle.std.specs.Prelude.{◌≡◌, ◌≢◌, ◌<◌, ◌+◌, ◌%◌, ◌^◌, length};
+ghost use Rattle.memory_model.specs.Laws.{SamePlace};
 ghost use Rattle.i386_execute.specs.Unit.{unit, address_behind, performed, incremented_flags, extended};
 
 use crate::form::{Decoded, Form, decode};
@@ -73,6 +74,8 @@ fn perform(form: Form, count: u8, regs: &mut Registers)
 #[tactic(auto, unfolding(crate::specs::Unit::unit))]
 pub fn step<B: Bus>(regs: &mut Registers, bus: &mut B) -> Stepped
     ensures effect { record { stepped = result; registers = regs.new; bus = B.state bus.new } ≡ unit B.ports regs.old (B.state bus.old) }
+    ensures unchanged { result ≢ Stepped.Next → (regs.new ≡ regs.old) × (B.state bus.new ≡ B.state bus.old) }
+    ensures place { SamePlace (B.state bus.old).side (B.state bus.new).side }
     ensures lenders { B.lenders bus.new ≡ B.lenders bus.old }
 {
     let mut bytes = [0; 15];
