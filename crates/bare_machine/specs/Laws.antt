@@ -2,8 +2,8 @@
 use Rattle.std.specs.Prelude.{ℕ, ◌+◌, List}
 use Rattle.trace_lines.specs.declared.lines.RLine.{RLine}
 use Rattle.run_lines.specs.Ticks.{IsPrefixOf}
-use Rattle.bare_machine.specs.State.{GuestStart}
+use Rattle.bare_machine.specs.State.{Bare}
 use Rattle.bare_machine.specs.Run.{bare_run}
 
 abbrev pub GoOn : Type 0
-GoOn = (start : GuestStart) (r : List (ℕ × RLine)) (n m : ℕ) → IsPrefixOf (bare_run start r n) (bare_run start r (n + m))
+GoOn = (b : Bare) (r : List (ℕ × RLine)) (n m : ℕ) → IsPrefixOf (bare_run b r n) (bare_run b r (n + m))

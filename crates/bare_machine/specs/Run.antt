@@ -6,26 +6,26 @@ use Rattle.trace_lines.specs.declared.lines.GLine.TheVariants.{End}
 use Rattle.trace_lines.specs.declared.lines.RLine.{RLine}
 use Rattle.run_lines.specs.Holder.{holder, is_guest}
 use Rattle.run_lines.specs.Ticks.{lines_to}
-use Rattle.bare_machine.specs.State.{Bare, GuestStart, Outcome, first_state}
+use Rattle.bare_machine.specs.State.{Bare, Outcome}
 use Rattle.bare_machine.specs.Unit.{guest_unit, still}
 
 -- a tick, in which the guest holds the processor or not
 abbrev pub bare_tick : Bool → Bare → Outcome
 bare_tick holds b = if holds then guest_unit b else still b
 
--- the state after n ticks
-unfoldable pub bare_after : GuestStart → List (ℕ × RLine) → ℕ → Bare
-bare_after start r zero = first_state start
-bare_after start r (suc n) = (bare_tick (is_guest (holder (suc n) r)) (bare_after start r n)).after
+-- the state after n ticks from a first state
+unfoldable pub bare_after : Bare → List (ℕ × RLine) → ℕ → Bare
+bare_after b r zero = b
+bare_after b r (suc n) = (bare_tick (is_guest (holder (suc n) r)) (bare_after b r n)).after
 
 -- the lines of the tick after n ticks
-unfoldable pub bare_lines : GuestStart → List (ℕ × RLine) → ℕ → List GLine
-bare_lines start r n = (bare_tick (is_guest (holder (suc n) r)) (bare_after start r n)).lines
+unfoldable pub bare_lines : Bare → List (ℕ × RLine) → ℕ → List GLine
+bare_lines b r n = (bare_tick (is_guest (holder (suc n) r)) (bare_after b r n)).lines
 
 -- the first end line: the mode, then EIP, EFLAGS and the general registers
 abbrev pub end_line : Bare → GLine
 end_line b = End b.mode (b.registers.eip ∷ word_of b.registers.eflags ∷ b.registers.general)
 
 -- the lines of ticks 1 to n
-abbrev pub bare_run : GuestStart → List (ℕ × RLine) → ℕ → List (ℕ × GLine)
-bare_run start r n = lines_to (bare_lines start r) n
+abbrev pub bare_run : Bare → List (ℕ × RLine) → ℕ → List (ℕ × GLine)
+bare_run b r n = lines_to (bare_lines b r) n

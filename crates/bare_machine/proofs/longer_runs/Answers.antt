@@ -3,4 +3,4 @@ use Rattle.run_lines.proofs.Longer.{longer}
 use Rattle.bare_machine.proofs.longer_runs.Goals as goal
 
 pub returns : goal.returns
-returns c = λ start r n m. longer (bare_lines start r) n m
+returns c = λ b r n m. longer (bare_lines b r) n m

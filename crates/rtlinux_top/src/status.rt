@@ -1,0 +1,57 @@
+// The answers of the top call.
+ghost use Rattle.std.specs.Prelude.{◌≡◌};
+
+/// What failed outside.
+#[derive(Clone, Copy, Debug, PartialEq, Eq)]
+pub enum Device {
+    /// a fetch from the store
+    Read,
+    /// a put into the sink
+    Write,
+}
+
+/// The number of a refusal, as its error line shows it: `number`, or `number.part` where the part isn't 0.
+#[derive(Clone, Copy, Debug, PartialEq, Eq)]
+pub struct Code {
+    pub number: u8,
+    pub part: u8,
+}
+
+/// The answer of the top call.
+#[derive(Clone, Copy, Debug, PartialEq, Eq)]
+pub enum Status {
+    /// All ticks ran and all of the output was written, with no breach and no fault among the lines.
+    Done,
+    /// An input was refused, and the error line was written.
+    Refused(Code),
+    /// What is outside failed.
+    Outside(Device),
+    /// All ticks ran and all of the output was written, with a breach of the guest among the lines.
+    Breach,
+    /// All ticks ran and all of the output was written, with a fault of a real-time activity among the lines, and no
+    /// breach.
+    RtFault,
+    /// The words were refused, and the error line was written.
+    Usage,
+    /// Memory was refused. Nothing was written.
+    NoMemory,
+}
+
+impl Status {
+    ghost use Rattle.rtlinux_top.specs.Status.{number_of};
+
+    /// The status that the program ends with.
+    pub fn number(&self) -> u8
+        ensures { result ≡ number_of self.now }
+    {
+        match self {
+            Status::Done => 0,
+            Status::Refused(_) => 1,
+            Status::Outside(_) => 2,
+            Status::Breach => 3,
+            Status::RtFault => 4,
+            Status::Usage => 5,
+            Status::NoMemory => 9,
+        }
+    }
+}
