@@ -1,0 +1,106 @@
+// The store over the system's files.
+ghost use Rattle.std.specs.Prelude.{◌≡◌, ◌≤◌, ◌^◌, length, take};
+ghost use Rattle.outside_io.specs.Causes.{Rose};
+
+use outside_io::{Content, Fetched, Store, StoreFault};
+use std::alloc::Global;
+use std::fs;
+use std::io::Read;
+use std::rt::Files;
+
+/// How many bytes are read at a time.
+const CHUNK: usize = 4096;
+
+/// The system's files, by their paths. It tells nothing of what they hold. A fetch fails where the file can't be opened
+/// or read, and then the count of faults is raised.
+#[derive(Drop)]
+pub struct FileStore<'a, R: Files> {
+    rt: &'a R,
+    faults: u64,
+    last: [u8; 255],
+    last_len: usize,
+    ghost short: { last_len ≤ 255 },
+}
+
+impl<'a, R: Files> FileStore<'a, R> {
+    /// The files that `rt` reaches, with no fault yet.
+    pub fn new(rt: &'a R) -> FileStore<'a, R> {
+        FileStore {
+            rt,
+            faults: 0,
+            last: [0; 255],
+            last_len: 0,
+        }
+    }
+
+    // Counts a fault and keeps the name.
+    fn fail(&mut self, name: &str) -> StoreFault
+        requires { length name.now ≤ 255 }
+        ensures answer { result ≡ StoreFault.Failed }
+        ensures rose { Rose self.old.faults self.new.faults }
+        ensures later { self.old.faults ≤ self.new.faults }
+        ensures name { take self.new.last_len self.new.last ≡ name.now }
+    {
+        self.faults = self.faults.saturating_add(1);
+        self.last_len = keep_name(&mut self.last, name.as_bytes());
+        StoreFault::Failed
+    }
+}
+
+fn keep_name(last: &mut [u8; 255], name: &[u8]) -> usize
+    requires { length name.now ≤ 255 }
+    ensures len { result ≡ length name.now }
+    ensures name { take result last.new ≡ name.now }
+{
+    last[..name.len()].copy_from_slice(name);
+    name.len()
+}
+
+impl<R: Files> Store for FileStore<'_, R> {
+    ghost use Rattle.std.specs.Prelude.{None, take};
+
+    ghost held = { λ _. None };
+
+    ghost faults = { λ store. store.faults };
+
+    ghost failed_last = { λ store. take store.last_len store.last };
+
+    fn fetch(&mut self, alloc: Global, name: &str, limit: u32) -> Result<Fetched, StoreFault> {
+        match read_file(self.rt, alloc, name, limit as usize) {
+            Ok(fetched) => Ok(fetched),
+            Err(StoreFault::Failed) => Err(self.fail(name)),
+            Err(StoreFault::NoMemory) => Err(StoreFault::NoMemory),
+        }
+    }
+}
+
+// The bytes of a file, where they are no more than the limit. Of a larger one no more than the limit is held.
+fn read_file<R: Files>(
+    rt: &R,
+    alloc: Global,
+    name: &str,
+    limit: usize,
+) -> Result<Fetched, StoreFault> {
+    let mut file = match fs::open(rt, name) {
+        Ok(file) => file,
+        Err(_) => return Err(StoreFault::Failed),
+    };
+    let mut bytes = Vec::new(alloc);
+    let mut chunk = [0u8; CHUNK];
+    for _ in 0..u64::MAX {
+        let count = match file.read(&mut chunk) {
+            Ok(count) => count,
+            Err(_) => return Err(StoreFault::Failed),
+        };
+        if count == 0 {
+            return Ok(Fetched::Bytes(Content::new(bytes)));
+        }
+        if bytes.len() > limit || count > limit - bytes.len() {
+            return Ok(Fetched::Larger);
+        }
+        if bytes.extend_from_slice(&chunk[..count]).is_err() {
+            return Err(StoreFault::NoMemory);
+        }
+    }
+    Err(StoreFault::Failed)
+}
