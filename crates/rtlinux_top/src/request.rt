@@ -22,7 +22,9 @@ const FLAT_LIMIT: usize = 65_536;
 
 /// The numbers of the refusals.
 const FILE_TOO_LARGE: u8 = 12;
+
 const PART_OUTSIDE: u8 = 21;
+
 const TICKS_REFUSED: u8 = 40;
 
 /// What the words and the files come to: a run of an image for so many ticks, a refusal with its line, or want of
@@ -70,11 +72,7 @@ fn refuse(status: Status, head: &[u8], word: &[u8]) -> Request
 }
 
 // The image, where it isn't too large.
-fn fetch_image<S: Store>(
-    alloc: Global,
-    store: &mut S,
-    name: &str,
-) -> Result<Content, ImageRefusal>
+fn fetch_image<S: Store>(alloc: Global, store: &mut S, name: &str) -> Result<Content, ImageRefusal>
     requires some { 1 ≤ length name.now }
     requires short { length name.now ≤ 255 }
     ensures told { IfSome (S.held store.old) (λ files. GivesImage (files name.now) result) }
