@@ -29,11 +29,7 @@ impl Model for FlatMemory {
 impl FlatMemory {
     /// A memory of zeros, with `guest_size` bytes for the guest and `real_time_size` for the real-time side.
     #[tactic(auto, unfolding(crate::specs::Zeros::zeros))]
-    pub fn new(
-        alloc: Global,
-        guest_size: u32,
-        real_time_size: u32,
-    ) -> Result<FlatMemory, NoMemory>
+    pub fn new(alloc: Global, guest_size: u32, real_time_size: u32) -> Result<FlatMemory, NoMemory>
         ensures guest { IfOk result (λ m. m.guest ≡ zeros guest_size) }
         ensures real_time { IfOk result (λ m. m.real_time ≡ zeros real_time_size) }
         ensures guest_size { IfOk result (λ m. length m.guest ≡ guest_size) }

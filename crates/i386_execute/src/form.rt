@@ -24,6 +24,7 @@ pub enum Decoded {
 
 /// The opcodes of INC of registers 0 to 7.
 const INCREMENT: u8 = 0x40;
+
 const LAST_INCREMENT: u8 = 0x47;
 
 /// The opcode of JMP with a displacement of a byte.

@@ -17,7 +17,10 @@ fn a_line_is_pushed_piece_by_piece(rt: HostRuntime) -> Result<(), Fail> {
     assert!(rt; line.push_bytes(b"abcd"));
     assert!(rt; line.push_text(b" "));
     assert!(rt; line.push_bytes(b""));
-    assert_eq!(rt; line.as_bytes(), b"R 4294967295 -22 0001102f 03f8 61626364 -".as_slice());
+    assert_eq!(rt;
+        line.as_bytes(),
+        b"R 4294967295 -22 0001102f 03f8 61626364 -".as_slice()
+    );
     Ok(())
 }
 

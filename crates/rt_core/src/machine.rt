@@ -84,12 +84,7 @@ impl Machine {
         devices();
         drain();
         pick(&mut self.on, lines);
-        guest_unit(
-            &mut self.memory,
-            &mut self.registers,
-            &mut self.mode,
-            lines,
-        );
+        guest_unit(&mut self.memory, &mut self.registers, &mut self.mode, lines);
         timer();
     }
 

@@ -8,3 +8,6 @@ mod write;
 pub use lines::{BreachKind, GLine, HLine, Mode, RLine, Who};
 pub use tick_lines::Lines;
 pub use write::{write_g, write_r};
+
+#[cfg(test)]
+mod tests;

@@ -1,0 +1,43 @@
+// The store and the sink in memory.
+use crate::{Fetched, MemorySink, MemoryStore, Sink, Store, StoreFault};
+use std::alloc::Global;
+use std::test::Fail;
+
+fn size_of(fetched: Result<Fetched, StoreFault>) -> Option<usize> {
+    match fetched {
+        Ok(Fetched::Bytes(content)) => Some(content.as_slice().len()),
+        _ => None,
+    }
+}
+
+fn two_files(alloc: Global) -> Result<Vec<(String, Vec<u8>)>, Fail> {
+    let mut files = Vec::new(alloc);
+    files.push((String::from_str(alloc, "a")?, b"12345".to_vec(alloc)?))?;
+    files.push((String::from_str(alloc, "a")?, b"6".to_vec(alloc)?))?;
+    Ok(files)
+}
+
+#[test]
+fn the_store_holds_files_and_fails_where_told(rt: HostRuntime) -> Result<(), Fail> {
+    let alloc = rt.alloc();
+    let mut store = MemoryStore::new(two_files(alloc)?, [2].to_vec(alloc)?);
+    assert_eq!(rt; size_of(store.fetch(alloc, "a", 5)), Some(5));
+    assert_eq!(rt; store.fetch(alloc, "a", 5).err(), Some(StoreFault::Failed));
+    assert!(rt; matches!(store.fetch(alloc, "a", 4), Ok(Fetched::Larger)));
+    assert_eq!(rt; store.fetch(alloc, "b", 5).err(), Some(StoreFault::Failed));
+    Ok(())
+}
+
+#[test]
+fn the_sink_keeps_what_fits_and_fails_where_told(rt: HostRuntime) -> Result<(), Fail> {
+    let alloc = rt.alloc();
+    let mut sink = MemorySink::new(alloc, 8, [(2, 1)].to_vec(alloc)?)
+        .ok()
+        .ok_or("no sink")?;
+    assert!(rt; sink.put(b"abc").is_ok());
+    assert!(rt; sink.put(b"def").is_err());
+    assert!(rt; sink.put(b"ghij").is_ok());
+    assert!(rt; sink.put(b"k").is_err());
+    assert_eq!(rt; sink.written(), b"abcdghij".as_slice());
+    Ok(())
+}
