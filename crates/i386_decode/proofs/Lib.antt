@@ -1,0 +1,11 @@
+pub mod Tables
+pub mod Prefixes
+pub mod Lists
+pub mod BoolTests
+pub mod Rules
+pub mod FieldsRead
+pub mod EntryRead
+pub mod ReadingComplete
+pub mod ReadingSound
+pub mod SpellingLaws
+pub mod FormFacts

@@ -1,0 +1,5 @@
+pub mod Table
+pub mod Fields
+pub mod Spelling
+pub mod Reading
+pub mod WellFormed

@@ -1,0 +1,302 @@
+// The fields of an instruction: how long each is, and what they make of the operands.
+
+ghost use Rattle.std.specs.Prelude.{◌≡◌, ◌<◌, ◌≤◌, ◌/◌, ◌%◌, drop, slice_index_or};
+ghost use Rattle.i386_decode.specs.Fields.{reg, mode, rm, sib_size, displacement_size, immediate_size, modrm_size, is_memory_only, names_register, sign_extended, base_of, index_of, address_of, extended, operand_of, width_of, form_of};
+ghost use Rattle.i386_decode.specs.Reading.{number};
+
+use crate::form::{Address, Form, Operand, Repeat};
+use crate::row::{ImmediateKind, ModRm, Place, Row, Size};
+use cpu_state::Width;
+
+/// The byte at an index, or another where there is none.
+pub fn byte_or(bytes: &[u8], at: usize, other: u8) -> u8
+    ensures { result ≡ slice_index_or bytes.now at other }
+{
+    if at < bytes.len() { bytes[at] } else { other }
+}
+
+/// The bytes behind the first ones.
+pub fn skip(bytes: &[u8], count: usize) -> &[u8]
+    ensures { result.now ≡ drop count bytes.now }
+{
+    if count < bytes.len() {
+        &bytes[count..]
+    } else {
+        &bytes[bytes.len()..]
+    }
+}
+
+/// The number of so many bytes, lowest first, with zeros for those that are missing.
+pub fn number_at(bytes: &[u8], count: usize) -> u32
+    requires { count ≤ 4 }
+    ensures value { result ≡ number count bytes.now }
+    ensures one { count ≤ 1 → result < 256 }
+{
+    let a = byte_or(bytes, 0, 0) as u32;
+    let b = byte_or(bytes, 1, 0) as u32;
+    let c = byte_or(bytes, 2, 0) as u32;
+    let d = byte_or(bytes, 3, 0) as u32;
+    match count {
+        0 => 0,
+        1 => a,
+        2 => a + 256 * b,
+        3 => a + 256 * (b + 256 * c),
+        _ => a + 256 * (b + 256 * (c + 256 * d)),
+    }
+}
+
+// The fields of a ModRM byte and of a SIB byte (Intel 80386 manual, section 17.2.1, tables 17-3 and 17-4).
+
+/// With this mod field the r/m field is a register.
+const REGISTER_MODE: u8 = 3;
+
+/// With this r/m field, and memory, a SIB byte follows.
+const SIB_FOLLOWS: u8 = 4;
+
+/// With this r/m field, or base of a SIB byte, and mod 00, a displacement of 32 bits stands in the base's place.
+const NO_BASE: u8 = 5;
+
+/// This index of a SIB byte is none.
+const NO_INDEX: u8 = 4;
+
+/// What stands for the ModRM byte where there is none: no SIB byte and no displacement follow.
+pub const NO_MODRM: u8 = 0xc0;
+
+/// The mod field of a ModRM byte.
+fn mode_of(modrm: u8) -> u8
+    ensures { result ≡ mode modrm }
+{
+    modrm / 64
+}
+
+/// The r/m field of a ModRM byte.
+fn rm_of(modrm: u8) -> u8
+    ensures value { result ≡ rm modrm }
+    ensures small { result < 8 }
+{
+    modrm % 8
+}
+
+/// The base of a SIB byte.
+fn base_field(sib: u8) -> u8
+    ensures { result ≡ sib % 8 }
+{
+    sib % 8
+}
+
+/// The index of a SIB byte.
+fn index_field(sib: u8) -> u8
+    ensures { result ≡ (sib / 8) % 8 }
+{
+    sib / 8 % 8
+}
+
+/// The reg field of a ModRM byte.
+pub fn reg_of(modrm: u8) -> u8
+    ensures value { result ≡ reg modrm }
+    ensures small { result < 8 }
+{
+    modrm / 8 % 8
+}
+
+/// How many ModRM bytes there are.
+pub fn modrm_count(modrm: ModRm) -> usize
+    ensures { result ≡ modrm_size modrm }
+{
+    match modrm {
+        ModRm::Without => 0,
+        ModRm::Either | ModRm::MemoryOnly => 1,
+    }
+}
+
+/// Whether a register at the r/m field begins no spelling.
+pub fn wants_memory(modrm: ModRm) -> bool
+    ensures { result ≡ is_memory_only modrm }
+{
+    match modrm {
+        ModRm::Without | ModRm::Either => false,
+        ModRm::MemoryOnly => true,
+    }
+}
+
+/// Whether the r/m field is a register.
+pub fn is_register(modrm: u8) -> bool
+    ensures { result ≡ names_register modrm }
+{
+    mode_of(modrm) == REGISTER_MODE
+}
+
+/// How many SIB bytes follow a ModRM byte.
+pub fn sib_count(modrm: u8) -> usize
+    ensures { result ≡ sib_size modrm }
+{
+    if mode_of(modrm) < REGISTER_MODE && rm_of(modrm) == SIB_FOLLOWS {
+        1
+    } else {
+        0
+    }
+}
+
+/// How many bytes a displacement has.
+pub fn displacement_count(modrm: u8, sib: u8) -> usize
+    ensures value { result ≡ displacement_size modrm sib }
+    ensures bound { result ≤ 4 }
+{
+    match mode_of(modrm) {
+        0 => if rm_of(modrm) == NO_BASE
+            || rm_of(modrm) == SIB_FOLLOWS && base_field(sib) == NO_BASE
+        {
+            4
+        } else {
+            0
+        },
+        1 => 1,
+        2 => 4,
+        _ => 0,
+    }
+}
+
+/// How many bytes an immediate has.
+pub fn immediate_count(kind: ImmediateKind, narrow: bool) -> usize
+    ensures value { result ≡ immediate_size kind narrow }
+    ensures bound { result ≤ 4 }
+{
+    match kind {
+        ImmediateKind::NoBytes => 0,
+        ImmediateKind::OneByte | ImmediateKind::SignedByte => 1,
+        ImmediateKind::TwoBytes => 2,
+        ImmediateKind::FullWidth => if narrow { 2 } else { 4 },
+        ImmediateKind::FourBytes => 4,
+    }
+}
+
+/// A byte in 32 bits, with its sign.
+fn sign_extend(byte: u32) -> u32
+    requires { byte < 256 }
+    ensures { result ≡ sign_extended byte }
+{
+    if byte < 128 { byte } else { byte + 0xffffff00 }
+}
+
+/// The base register of an address.
+fn base(modrm: u8, sib: u8) -> Option<u8>
+    ensures { result ≡ base_of modrm sib }
+{
+    let rm = rm_of(modrm);
+    if rm == SIB_FOLLOWS {
+        if base_field(sib) == NO_BASE && mode_of(modrm) == 0 {
+            None
+        } else {
+            Some(base_field(sib))
+        }
+    } else {
+        if rm == NO_BASE && mode_of(modrm) == 0 {
+            None
+        } else {
+            Some(rm)
+        }
+    }
+}
+
+/// The index register of an address, and its shift.
+fn index(modrm: u8, sib: u8) -> Option<(u8, u8)>
+    ensures { result ≡ index_of modrm sib }
+{
+    let index = index_field(sib);
+    if rm_of(modrm) == SIB_FOLLOWS && index != NO_INDEX {
+        Some((index, sib / 64))
+    } else {
+        None
+    }
+}
+
+/// The width of an operation.
+fn width(size: Size, narrow: bool) -> Width
+    ensures { result ≡ width_of size narrow }
+{
+    match size {
+        Size::Byte => Width::W8,
+        Size::Full => if narrow { Width::W16 } else { Width::W32 },
+    }
+}
+
+/// The address of an operand of memory.
+fn address(modrm: u8, sib: u8, displacement: u32) -> Address
+    requires { displacement_size modrm sib ≤ 1 → displacement < 256 }
+    ensures { result ≡ address_of modrm sib displacement }
+{
+    Address {
+        base: base(modrm, sib),
+        index: index(modrm, sib),
+        displacement: if mode_of(modrm) == 1 {
+            sign_extend(displacement)
+        } else {
+            displacement
+        },
+    }
+}
+
+/// An immediate in 32 bits.
+fn extend(kind: ImmediateKind, narrow: bool, immediate: u32) -> u32
+    requires { immediate_size kind narrow ≤ 1 → immediate < 256 }
+    ensures { result ≡ extended kind immediate }
+{
+    match kind {
+        ImmediateKind::SignedByte => sign_extend(immediate),
+        ImmediateKind::NoBytes
+        | ImmediateKind::OneByte
+        | ImmediateKind::TwoBytes
+        | ImmediateKind::FullWidth
+        | ImmediateKind::FourBytes => immediate,
+    }
+}
+
+/// The operand at a place.
+fn operand(place: Place, modrm: u8, sib: u8, displacement: u32, immediate: u32) -> Operand
+    requires { displacement_size modrm sib ≤ 1 → displacement < 256 }
+    ensures { result ≡ operand_of place modrm sib displacement immediate }
+{
+    match place {
+        Place::Nothing => Operand::Absent,
+        Place::RegField => Operand::Register(reg_of(modrm)),
+        Place::RmField => if is_register(modrm) {
+            Operand::Register(rm_of(modrm))
+        } else {
+            Operand::Memory(address(modrm, sib, displacement))
+        },
+        Place::Fixed(register) => Operand::Register(register),
+        Place::Number(number) => Operand::Immediate(number),
+        Place::Immediate => Operand::Immediate(immediate),
+        Place::Offset => Operand::Memory(Address {
+            base: None,
+            index: None,
+            displacement: immediate,
+        }),
+    }
+}
+
+/// The form of a row with these prefixes and fields.
+#[tactic(auto, unfolding(crate::specs::Fields::form_of))]
+pub fn form(
+    row: &Row,
+    narrow: bool,
+    repeat: Repeat,
+    modrm: u8,
+    sib: u8,
+    displacement: u32,
+    immediate: u32,
+) -> Form
+    requires displacement_fits { displacement_size modrm sib ≤ 1 → displacement < 256 }
+    requires immediate_fits { immediate_size row.now.immediate narrow ≤ 1 → immediate < 256 }
+    ensures { result ≡ form_of row.now narrow repeat modrm sib displacement immediate }
+{
+    let immediate = extend(row.immediate, narrow, immediate);
+    Form {
+        op: row.op,
+        width: width(row.size, narrow),
+        first: operand(row.first, modrm, sib, displacement, immediate),
+        second: operand(row.second, modrm, sib, displacement, immediate),
+        third: operand(row.third, modrm, sib, displacement, immediate),
+        repeat: if row.string { repeat } else { Repeat::Once },
+    }
+}
