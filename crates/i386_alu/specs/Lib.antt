@@ -1,0 +1,12 @@
+pub mod Computed
+pub mod Operand
+pub mod Binary
+pub mod Unary
+pub mod Shift
+pub mod DoubleShift
+pub mod Product
+pub mod Quotient
+pub mod Bit
+pub mod Scan
+pub mod Condition
+pub mod Laws
