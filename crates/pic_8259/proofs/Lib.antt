@@ -1,0 +1,3 @@
+pub mod Latches
+pub mod Pairs
+pub mod Requests

@@ -1,0 +1,4 @@
+pub mod Boot
+pub mod Chip
+pub mod Controllers
+pub mod Laws
