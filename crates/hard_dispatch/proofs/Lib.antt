@@ -1,0 +1,4 @@
+pub mod Alone
+pub mod Owners
+pub mod Requests
+pub mod Turns

@@ -1,0 +1,13 @@
+use Rattle.rt_irqs.specs.Irqs.{Lines}
+use Rattle.rt_irqs.proofs.Kept.{soft_freed_kept}
+use Rattle.rt_irqs.proofs.irqs.Irqs.free_soft.Goals as goal
+
+pub invariant_of-self : goal.invariant_of-self
+invariant_of-self c =
+    let lines : Lines = record { entries = c.self.inside.entries; marked = c.self.inside.marked; soft = c.self.inside.soft } in
+    rw c.without_line32-self-inside.ensures (soft_freed_kept lines c.args.line c.self.invariant)
+
+pub returns-clause-kept : goal.returns-clause-kept
+returns-clause-kept c =
+    let lines : Lines = record { entries = c.self.inside.entries; marked = c.self.inside.marked; soft = c.self.inside.soft } in
+    rw c.without_line32-self-inside.ensures (soft_freed_kept lines c.args.line c.self.invariant)

@@ -1,0 +1,83 @@
+-- The lines of the real-time side: the hard lines that modules hold, with the entries of their handlers, those of them that are
+-- marked, and the soft lines that are taken.
+use Rattle.std.specs.Prelude.{◌≡◌, ◌<◌, ◌≤◌, ℕ, zero, suc, ◌^◌, Bool, true, not, ◌&&◌, ◌||◌, ◌==◌, nat_le, if◌then◌else◌, Option, Some, None, is_some, List, [], ◌∷◌, ◌++◌, length, slice_index_or, slice_set, replicate, find, ℤ, pos, negsuc}
+use Rattle.std.specs.List.{range_with_len}
+use Rattle.line_sets.specs.LineSet.{has, with_line, without_line, first_in}
+
+-- at each of the 16 hard lines the entry of its handler, or none where no module holds it; the set of the marked lines; and the
+-- set of the soft lines that are taken
+pub record Lines : Type 0 where
+  pub entries : List (Option ℕ)
+  pub marked : ℕ
+  pub soft : ℕ
+
+-- the entry of a line's handler
+abbrev pub entry_of : Lines → ℕ → Option ℕ
+entry_of l n = slice_index_or l.entries n None
+
+-- does a module hold the line?
+abbrev pub is_held : Lines → ℕ → Bool
+is_held l n = is_some (entry_of l n)
+
+-- may a module hold the line? Line 0 is the timer's, 2 the cascade's, and 4 the guest's serial port's
+abbrev pub is_holdable : ℕ → Bool
+is_holdable n = n == 1 || n == 3 || (nat_le 5 n && nat_le n 15)
+
+-- what is true of the lines at all times
+pub record IsLines (l : Lines) : Type 0 where
+  pub hard : length l.entries ≡ 16
+  pub holdable : (n : ℕ) → is_held l n ≡ true → is_holdable n ≡ true
+  pub marks_held : (n : ℕ) → has l.marked n ≡ true → is_held l n ≡ true
+  pub soft_from : (n : ℕ) → has l.soft n ≡ true → 16 ≤ n
+  pub soft_fits : l.soft < 2 ^ 32
+
+-- nothing held, marked or taken
+abbrev pub no_lines : Lines
+no_lines = record { entries = replicate 16 None; marked = 0; soft = 0 }
+
+-- the result of a call that fails, by Linux's error number: EBUSY is 16 and EINVAL 22
+abbrev pub failed : ℕ → ℤ
+failed zero = pos 0
+failed (suc n) = negsuc n
+
+-- a module asks for a line: EINVAL where none may hold it, EBUSY where one does
+abbrev pub request_result : Lines → ℕ → ℤ
+request_result l n = if is_holdable n then (if is_held l n then failed 16 else pos 0) else failed 22
+
+abbrev pub requested : Lines → ℕ → ℕ → Lines
+requested l n entry = if is_holdable n && not (is_held l n) then record l { entries = slice_set l.entries n (Some entry) } else l
+
+-- a module gives a line back, whose mark goes with it: EINVAL where none holds it
+abbrev pub free_result : Lines → ℕ → ℤ
+free_result l n = if is_held l n then pos 0 else failed 22
+
+abbrev pub freed : Lines → ℕ → Lines
+freed l n = if is_held l n then record l { entries = slice_set l.entries n None; marked = without_line l.marked n } else l
+
+-- the order in which marked lines' handlers start, the 8259A's
+abbrev pub handler_order : List ℕ
+handler_order = 1 ∷ range_with_len 8 8 ++ 3 ∷ 5 ∷ 6 ∷ 7 ∷ []
+
+-- the marked line whose handler is next
+unfoldable pub next_of : Lines → Option ℕ
+next_of l = first_in handler_order l.marked
+
+-- the lowest soft line that isn't taken
+unfoldable pub free_soft_line : ℕ → Option ℕ
+free_soft_line soft = find (λ n. not (has soft n)) (range_with_len 16 16)
+
+-- a module asks for a soft line: EBUSY where all are taken
+abbrev pub line_result : Option ℕ → ℤ
+line_result None = failed 16
+line_result (Some n) = pos n
+
+abbrev pub line_taken : Option ℕ → Lines → Lines
+line_taken None l = l
+line_taken (Some n) l = record l { soft = with_line l.soft n }
+
+-- a module gives a soft line back: EINVAL where it isn't taken
+abbrev pub free_soft_result : Lines → ℕ → ℤ
+free_soft_result l n = if has l.soft n then pos 0 else failed 22
+
+abbrev pub soft_freed : Lines → ℕ → Lines
+soft_freed l n = if has l.soft n then record l { soft = without_line l.soft n } else l
