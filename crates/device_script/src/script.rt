@@ -1,0 +1,19 @@
+// What a script holds, and why one isn't taken.
+
+use crate::event::Events;
+
+/// The events of a script.
+#[derive(Drop)]
+pub struct Script {
+    /// Each event with its tick, from 1 on. Ticks never fall, and at most 16 events have one tick.
+    pub events: Events,
+}
+
+/// Why a script isn't taken.
+#[derive(Clone, Copy, Debug, PartialEq, Eq)]
+pub enum ScriptRefusal {
+    /// The number of the first bad line, counted from 1.
+    BadLine(u32),
+    /// Memory was refused.
+    NoMemory,
+}

@@ -1,0 +1,9 @@
+//! The serial port 16550, after its data sheet (National Semiconductor PC16550D). Time is ticks: a byte takes 32 to leave,
+//! and one that waits to be read for 128 is a timeout. The divisor and the frame's form have no effect on time.
+#![tactic(auto)]
+
+#[cfg(test)]
+mod tests;
+mod uart;
+
+pub use uart::Uart;
