@@ -1,0 +1,4 @@
+pub mod Lines
+pub mod Shots
+pub mod Latched
+pub mod Sampled

@@ -1,0 +1,8 @@
+use Rattle.port_board.specs.Board.{Rising}
+use Rattle.port_board.proofs.Sampled.{sampled_of}
+use Rattle.port_board.proofs.board.Board.tick.Goals as goal
+
+pub returns-clause-sampled : goal.returns-clause-sampled
+returns-clause-sampled c =
+    let before : Rising = record { board = c.events-lines.new.self; lines = c.events-lines.result } in
+    sampled_of c.sample-lines.new.self c.sample-lines.result before c.sample-lines.ensures

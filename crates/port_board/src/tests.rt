@@ -1,0 +1,90 @@
+// The lines that rise by accesses, in device steps and by the one-shot.
+
+use crate::{Board, NotYours};
+use cpu_state::Width::{W8, W16, W32};
+use device_script::Event;
+use port_map::Owner::{Guest, RealTime};
+
+// Registers of the serial ports: THR, IER, and MCR with OUT2.
+const COM1_THR: u16 = 0x3F8;
+
+const COM1_IER: u16 = 0x3F9;
+
+const COM1_MCR: u16 = 0x3FC;
+
+const COM2_IER: u16 = 0x2F9;
+
+const COM2_MCR: u16 = 0x2FC;
+
+#[test]
+fn a_rise_by_an_access_is_latched_at_once(rt: HostRuntime) {
+    let mut board = Board::new();
+    board.pair.initialize();
+    assert_eq!(rt; board.write(Guest, COM1_MCR, W8, 8), Ok(()));
+    assert_eq!(rt; board.take_rises(), 0);
+    assert_eq!(rt; board.pair.request(), None);
+    // the transmitter is empty, so it asks as soon as it is let through
+    assert_eq!(rt; board.write(Guest, COM1_IER, W8, 2), Ok(()));
+    assert_eq!(rt; board.pair.request(), Some(4));
+    assert_eq!(rt; board.take_rises(), 0x0010);
+    assert_eq!(rt; board.take_rises(), 0);
+    assert_eq!(rt; board.write(RealTime, COM2_IER, W32, 0x0800_0002), Ok(()));
+    assert_eq!(rt; board.take_rises(), 0x0008);
+}
+
+#[test]
+fn an_access_that_touches_anothers_port_is_refused_whole(rt: HostRuntime) {
+    let mut board = Board::new();
+    assert_eq!(rt; board.read(Guest, 0x2F7, W16), Err(NotYours));
+    assert_eq!(rt; board.write(Guest, 0x2F5, W32, 0x4142_4344), Err(NotYours));
+    assert_eq!(rt; board.write(RealTime, 0x3FF, W8, 0x41), Err(NotYours));
+    assert_eq!(rt; board.read(RealTime, 0x1F, W16), Err(NotYours));
+    assert_eq!(rt; board.read(Guest, 0x43, W8), Err(NotYours));
+    for _ in 0..40 {
+        assert_eq!(rt; board.tick(&[]).com2, None);
+    }
+    assert_eq!(rt; board.read(Guest, 0x3FF, W8), Ok(0));
+    // the ports FFFFh, 0, 1 and 2 are nobody's
+    assert_eq!(rt; board.read(Guest, 0xFFFF, W32), Ok(0xFFFF_FFFF));
+}
+
+#[test]
+fn a_byte_leaves_and_bytes_of_the_script_come_in(rt: HostRuntime) {
+    let mut board = Board::new();
+    board.pair.initialize();
+    assert_eq!(rt; board.write(Guest, COM1_IER, W8, 1), Ok(()));
+    assert_eq!(rt; board.write(Guest, COM1_MCR, W8, 8), Ok(()));
+    assert_eq!(rt; board.write(RealTime, COM2_IER, W8, 1), Ok(()));
+    assert_eq!(rt; board.write(RealTime, COM2_MCR, W8, 8), Ok(()));
+    assert_eq!(rt; board.write(Guest, COM1_THR, W8, 0x41), Ok(()));
+    for _ in 0..32 {
+        let edges = board.tick(&[]);
+        assert_eq!(rt; edges.com1, None);
+        assert_eq!(rt; edges.lines, 0);
+    }
+    let edges = board.tick(&[
+        Event::Com2(0x42),
+        Event::Line(9),
+        Event::Com1(0x43),
+        Event::Line(9),
+    ]);
+    assert_eq!(rt; edges.com1, Some(0x41));
+    assert_eq!(rt; edges.lines, 0x0218);
+    // a line that stays high rises once
+    assert_eq!(rt; board.tick(&[Event::Com1(0x44)]).lines, 0);
+    assert_eq!(rt; board.read(Guest, COM1_THR, W8), Ok(0x44));
+    assert_eq!(rt; board.tick(&[Event::Com1(0x45)]).lines, 0x0010);
+    assert_eq!(rt; board.take_rises(), 0);
+}
+
+#[test]
+fn the_one_shot_rises_in_its_tick(rt: HostRuntime) {
+    let mut board = Board::new();
+    board.set_one_shot(3);
+    for lines in [0, 0, 1, 0] {
+        assert_eq!(rt; board.tick(&[]).lines, lines);
+    }
+    board.set_one_shot(2);
+    board.set_one_shot(1);
+    assert_eq!(rt; board.tick(&[]).lines, 1);
+}
