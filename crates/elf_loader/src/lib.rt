@@ -1,0 +1,19 @@
+//! Images: ELF32 executables for the i386, read by the ELF specification and its i386 supplement, and placed on a side of
+//! memory.
+#![tactic(auto)]
+
+mod content;
+mod field;
+mod header;
+mod image;
+mod placing;
+mod read;
+mod spans;
+#[cfg(test)]
+mod tests;
+
+pub use content::{Content, Segments};
+pub use image::{ElfRefusal, Image, Segment};
+pub use placing::{PlaceRefusal, place};
+pub use read::read_image;
+pub use spans::Spans;
