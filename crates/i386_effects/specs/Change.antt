@@ -1,0 +1,39 @@
+-- What an instruction changes, once its loads are made.
+use Rattle.std.specs.Prelude.{ℕ, List, [], ◌∷◌}
+use Rattle.cpu_state.specs.declared.registers.Privileged.{Privileged as PrivilegedUse}
+use Rattle.cpu_state.specs.declared.registers.Registers.{Registers}
+use Rattle.cpu_state.specs.declared.width.Width.{Width}
+use Rattle.i386_effects.specs.declared.change.Ending.{Ending}
+use Rattle.i386_effects.specs.declared.change.Ending.TheVariants as ending
+use Rattle.i386_effects.specs.declared.lists.Stores.{Stores}
+use Rattle.i386_effects.specs.declared.lists.Stores.TheVariants.{Nothing, One, Eight}
+use Rattle.i386_effects.specs.declared.lists.Write.{Write}
+
+pub data Change : Type 0 where
+  -- these registers, and stores in order
+  Done : (after : Registers) (writes : List Write) → Change
+  -- these registers, with what a port answers in AL, AX or EAX
+  In : (after : Registers) (port : ℕ) (w : Width) → Change
+  -- these registers, and a write of a value to a port
+  Out : (after : Registers) (port : ℕ) (w : Width) (value : ℕ) → Change
+  -- nothing: the processor's own exception of this vector
+  Trap : (vector : ℕ) → Change
+  -- nothing: an interrupt of this vector
+  Interrupt : (vector : ℕ) → Change
+  -- nothing: an instruction on the hard interrupt flag, or HLT, of so many bytes
+  Privileged : (kind : PrivilegedUse) (n : ℕ) → Change
+
+-- stores as a list
+abbrev pub stores_of : Stores → List Write
+stores_of Nothing = []
+stores_of (One x) = x ∷ []
+stores_of (Eight xs) = xs
+
+-- an ending with the registers before it
+abbrev pub whole : Ending → Registers → Change
+whole (ending.Done stores) r = Done r (stores_of stores)
+whole (ending.In port w) r = In r port w
+whole (ending.Out port w value) r = Out r port w value
+whole (ending.Trap vector) r = Trap vector
+whole (ending.Interrupt vector) r = Interrupt vector
+whole (ending.Privileged kind n) r = Privileged kind n

@@ -1,0 +1,4 @@
+pub mod Operands
+pub mod Accesses
+pub mod Change
+pub mod Effect
