@@ -1,0 +1,7 @@
+//! The guest's soft gates: its cli, sti, iret, pushf, popf and hlt on the software flag, and its calls of the executive.
+#![tactic(auto)]
+
+mod gates;
+mod service;
+
+pub use gates::{GateUnit, gate};
