@@ -1,5 +1,5 @@
 -- The guest's unit, and its breaches.
-use Rattle.std.specs.Prelude.{ℕ, Bool, List, [], ◌∷◌, if◌then◌else◌}
+use Rattle.std.specs.Prelude.{ℕ, false, [], ◌∷◌, if◌then◌else◌}
 use Rattle.memory_model.specs.Side.{Side}
 use Rattle.cpu_state.specs.declared.registers.Access.{Access}
 use Rattle.cpu_state.specs.declared.registers.Access.TheVariants.{Load as Loading, Store as Storing, Fetch as Fetching}
@@ -12,11 +12,17 @@ use Rattle.breach_monitor.specs.GuestUnit.{answer_to}
 use Rattle.breach_monitor.specs.declared.guest.Breach.{Breach as BreachOf}
 use Rattle.breach_monitor.specs.declared.guest.Breach.TheVariants.{Privileged, Int as IntOf, Port as PortOf, Outside}
 use Rattle.breach_monitor.specs.declared.guest.GuestUnit.{GuestUnit}
-use Rattle.breach_monitor.specs.declared.guest.GuestUnit.TheVariants.{Next, Enter, Breach as Breaches}
+use Rattle.breach_monitor.specs.declared.guest.GuestUnit.TheVariants.{Next, Enter, Gate, Breach as Breaches}
+use Rattle.soft_entry.specs.Entry.{Entering, entering}
+use Rattle.soft_entry.specs.declared.entry.Entry.{Entry}
+use Rattle.soft_entry.specs.declared.entry.Entry.TheVariants.{Entered, Shutdown, Outside as OutsideEntry}
+use Rattle.soft_gates.specs.Gate.{Gated, gated}
+use Rattle.soft_gates.specs.declared.gates.GateUnit.{GateUnit}
+use Rattle.soft_gates.specs.declared.gates.GateUnit.TheVariants.{Finished, Halted, Outside as OutsideGate}
 use Rattle.trace_lines.specs.declared.lines.BreachKind.{BreachKind}
 use Rattle.trace_lines.specs.declared.lines.BreachKind.TheVariants.{Cli, Sti, Iret, Pushf, Popf, Hlt, Int, Port, Fetch, Load, Store}
-use Rattle.trace_lines.specs.declared.lines.GLine.TheVariants.{Shutdown, Breach}
-use Rattle.trace_lines.specs.declared.lines.Mode.TheVariants.{Stopped}
+use Rattle.trace_lines.specs.declared.lines.GLine.TheVariants.{Int as IntLine, Halt, Shutdown as ShutdownLine, Breach}
+use Rattle.trace_lines.specs.declared.lines.Mode.TheVariants.{Stopped, Halted as HaltedMode}
 use Rattle.bare_machine.specs.State.{Bare, Outcome, runs}
 
 abbrev pub use_kind : PrivilegedUse → BreachKind
@@ -50,27 +56,44 @@ stopped b = record b { mode = Stopped }
 abbrev pub breached : BreachKind → Bare → Outcome
 breached kind b = record { after = stopped b; lines = Breach kind ∷ [] }
 
--- a vector without a present descriptor prints its line and stops the guest. No vector has a descriptor yet
-abbrev pub entered : ℕ → Bare → Outcome
-entered vector b = record { after = stopped b; lines = Shutdown vector ∷ [] }
+-- an entry: where the vector has no present descriptor, the guest is stopped; where the frame lies outside, that is a breach
+abbrev pub enters : ℕ → Bare → Entering → Entry → Outcome
+enters vector b e Entered = record { after = record b { registers = e.registers; side = e.side; soft = e.flags }; lines = IntLine vector ∷ [] }
+enters vector b e Shutdown = record { after = stopped b; lines = ShutdownLine vector ∷ [] }
+enters vector b e (OutsideEntry at) = breached (Store at) b
+
+-- a trap pushes EIP, an interrupt the next EIP
+abbrev pub int_entry : ℕ → ℕ → Bare → Outcome
+int_entry vector push b = let e = entering vector push b.registers b.soft b.side in enters vector b e e.entry
+
+-- a gate: an access outside is a breach
+abbrev pub gates : Bare → Gated → GateUnit → Outcome
+gates b g Finished = still (record b { registers = g.registers; side = g.side; soft = g.flags })
+gates b g Halted = record { after = record b { registers = g.registers; side = g.side; soft = g.flags; mode = HaltedMode }; lines = Halt ∷ [] }
+gates b g (OutsideGate access at) = breached (access_kind access at) b
+
+abbrev pub gate : ℕ → ℕ → ℕ → Bare → Outcome
+gate t number next b = let g = gated number next t b.registers b.soft b.side in gates b g g.came
 
 -- the processor's unit over the guest's side
 abbrev pub unit_at : Registers → Side → Effect (Unit {0})
 unit_at registers side = unit no_ports registers (record { side = side; devices = tt })
 
+-- an instruction that was performed, with which a shadow ends
 abbrev pub performed : Effect (Unit {0}) → Bare → Bare
-performed e b = record b { registers = e.registers; side = e.bus.side }
+performed e b = record b { registers = e.registers; side = e.bus.side; soft = record b.soft { shadow = false } }
 
-abbrev pub came_to : Effect (Unit {0}) → Bare → GuestUnit → Outcome
-came_to e b Next = still (performed e b)
-came_to e b (Enter vector push) = entered vector b
-came_to e b (Breaches breach) = breached (breach_kind breach) b
+abbrev pub came_to : ℕ → Effect (Unit {0}) → Bare → GuestUnit → Outcome
+came_to t e b Next = still (performed e b)
+came_to t e b (Enter vector push) = int_entry vector push b
+came_to t e b (Gate number next) = gate t number next b
+came_to t e b (Breaches breach) = breached (breach_kind breach) b
 
-abbrev pub instruction : Bare → Outcome
-instruction b =
+abbrev pub instruction : ℕ → Bare → Outcome
+instruction t b =
     let e = unit_at b.registers b.side in
-    came_to e b (answer_to b.registers.eip (address_behind b.registers b.side) e.stepped)
+    came_to t e b (answer_to b.registers.eip (address_behind b.registers b.side) e.stepped)
 
--- where the guest is halted or stopped, nothing happens
-unfoldable pub guest_unit : Bare → Outcome
-guest_unit b = if runs b.mode then instruction b else still b
+-- the unit of tick t. Where the guest is halted or stopped, nothing happens
+unfoldable pub guest_unit : ℕ → Bare → Outcome
+guest_unit t b = if runs b.mode then instruction t b else still b

@@ -1,14 +1,17 @@
 -- What a unit of the guest comes to, from what the processor's unit came to.
-use Rattle.std.specs.Prelude.{ℕ, nat_lt, if◌then◌else◌}
+use Rattle.std.specs.Prelude.{ℕ, nat_le, nat_lt, if◌then◌else◌}
 use Rattle.i386_execute.specs.declared.unit.Stepped.{Stepped}
 use Rattle.i386_execute.specs.declared.unit.Stepped.TheVariants.{Next as Performed, Trap, Interrupt, Privileged as PrivilegedUse, Outside as OutsideAccess, Port as OwnedPort}
 use Rattle.breach_monitor.specs.declared.guest.Breach.TheVariants.{Privileged, Int, Port, Outside}
 use Rattle.breach_monitor.specs.declared.guest.GuestUnit.{GuestUnit}
-use Rattle.breach_monitor.specs.declared.guest.GuestUnit.TheVariants.{Next, Enter, Breach}
+use Rattle.breach_monitor.specs.declared.guest.GuestUnit.TheVariants.{Next, Enter, Gate, Breach}
 
--- vectors F7h to FFh are breaches
+-- vectors F0h to F6h are the soft gates, and those behind them breaches
 abbrev pub interrupted : ℕ → ℕ → GuestUnit
-interrupted vector next = if nat_lt vector 247 then Enter vector next else Breach (Int vector)
+interrupted vector next =
+    if nat_lt vector 240 then Enter vector next
+    else if nat_le vector 246 then Gate vector next
+    else Breach (Int vector)
 
 -- a trap pushes the EIP of the instruction, an interrupt that of the next one
 abbrev pub answer_to : ℕ → ℕ → Stepped → GuestUnit

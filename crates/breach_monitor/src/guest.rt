@@ -1,5 +1,5 @@
 // The guest's unit.
-ghost use Rattle.std.specs.Prelude.{◌≡◌, ◌≢◌};
+ghost use Rattle.std.specs.Prelude.{◌≡◌, ◌≢◌, ◌≤◌, ℕ};
 ghost use Rattle.i386_execute.specs.Unit.{unit, address_behind};
 ghost use Rattle.breach_monitor.specs.GuestBus.{no_ports, guest_state};
 ghost use Rattle.breach_monitor.specs.GuestUnit.{answer_to, interrupted};
@@ -28,18 +28,24 @@ pub enum GuestUnit {
     Next,
     /// A trap or an interrupt of this vector is to be entered, and this EIP to be pushed.
     Enter(u8, u32),
+    /// The soft gate of this number is to be performed, which goes on at this EIP.
+    Gate(u8, u32),
     /// The guest is to be stopped for good.
     Breach(Breach),
 }
 
-/// The first of the vectors, up to the greatest, that no guest may use.
-const FIRST_BREACH: u8 = 0xf7;
+/// The first and the last of the vectors that are soft gates. No guest may use those behind them.
+const FIRST_GATE: u8 = 0xf0;
+
+const LAST_GATE: u8 = 0xf6;
 
 fn interrupted(vector: u8, next: u32) -> GuestUnit
     ensures { result ≡ interrupted vector next }
 {
-    if vector < FIRST_BREACH {
+    if vector < FIRST_GATE {
         GuestUnit::Enter(vector, next)
+    } else if vector <= LAST_GATE {
+        GuestUnit::Gate(vector, next)
     } else {
         GuestUnit::Breach(Breach::Int(vector))
     }
@@ -54,13 +60,13 @@ pub fn guest_unit(regs: &mut Registers, bus: &mut GuestBus<'_>) -> GuestUnit
     ensures state { guest_state bus.new.first bus.new.bytes.now ≡ (unit no_ports regs.old (guest_state bus.old.first bus.old.bytes.now)).bus }
     ensures unchanged { result ≢ GuestUnit.Next → (regs.new ≡ regs.old) × (bus.new.bytes.now ≡ bus.old.bytes.now) }
     ensures place { bus.new.first ≡ bus.old.first }
+    ensures gate { (number next : ℕ) → result ≡ GuestUnit.Gate number next → (240 ≤ number) × (number ≤ 246) }
 {
     let eip = regs.eip;
-    let next = after(regs, bus);
     match step(regs, bus) {
         Stepped::Next => GuestUnit::Next,
         Stepped::Trap(vector) => GuestUnit::Enter(vector, eip),
-        Stepped::Interrupt(vector) => interrupted(vector, next),
+        Stepped::Interrupt(vector) => interrupted(vector, after(regs, bus)),
         Stepped::Privileged(kind, _) => GuestUnit::Breach(Breach::Privileged(kind)),
         Stepped::Outside(access, at) => GuestUnit::Breach(Breach::Outside(access, at)),
         Stepped::Port(port) => GuestUnit::Breach(Breach::Port(port)),
@@ -73,6 +79,7 @@ pub fn guest_unit_on(regs: &mut Registers, memory: &mut [u8]) -> GuestUnit
     ensures registers { regs.new ≡ (unit no_ports regs.old (guest_state 0 memory.old)).registers }
     ensures state { guest_state 0 memory.new ≡ (unit no_ports regs.old (guest_state 0 memory.old)).bus }
     ensures unchanged { result ≢ GuestUnit.Next → (regs.new ≡ regs.old) × (memory.new ≡ memory.old) }
+    ensures gate { (number next : ℕ) → result ≡ GuestUnit.Gate number next → (240 ≤ number) × (number ≤ 246) }
 {
     let mut bus = GuestBus::new(0, memory);
     guest_unit(regs, &mut bus)

@@ -1,2 +1,13 @@
-pub mod Form
+pub mod Results
+pub mod Arithmetic
+pub mod Bits
+pub mod Products
+pub mod Moves
+pub mod Stack
+pub mod Jumps
+pub mod Flags
+pub mod Interrupts
+pub mod Loads
+pub mod Changes
 pub mod Unit
+pub mod OwnFlag

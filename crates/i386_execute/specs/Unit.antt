@@ -1,17 +1,25 @@
--- One unit of the processor: the instruction at EIP, performed, or what stands in its way.
-use Rattle.std.specs.Prelude.{ℕ, ◌+◌, ◌-◌, ◌%◌, ◌^◌, List, length, ◌==◌, nat_le, nat_lt, if◌then◌else◌, slice_index, slice_set, count_ones}
+-- One unit of the processor: the instruction at EIP, or one iteration of a string instruction, performed, or what stands in its
+-- way.
+use Rattle.std.specs.Prelude.{ℕ, ◌+◌, ◌%◌, ◌^◌, List, length, if◌then◌else◌}
 use Rattle.memory_model.specs.Side.{Side, bytes_from}
 use Rattle.cpu_state.specs.Bus.{State, Ports}
-use Rattle.cpu_state.specs.declared.eflags.Eflags.{Eflags}
-use Rattle.cpu_state.specs.declared.registers.Registers.{Registers}
 use Rattle.cpu_state.specs.declared.registers.Access.TheVariants.{Fetch}
-use Rattle.i386_execute.specs.Form.{decode_of}
-use Rattle.i386_execute.specs.declared.form.Form.{Form}
-use Rattle.i386_execute.specs.declared.form.Form.TheVariants.{Increment, Jump}
-use Rattle.i386_execute.specs.declared.form.Decoded.{Decoded}
-use Rattle.i386_execute.specs.declared.form.Decoded.TheVariants.{Form as Spelled, Undefined, Short}
+use Rattle.cpu_state.specs.declared.registers.Registers.{Registers}
+use Rattle.i386_decode.specs.Reading.{decode_of}
+use Rattle.i386_decode.specs.WellFormed.{is_string}
+use Rattle.i386_decode.specs.declared.form.Decoded.{Decoded}
+use Rattle.i386_decode.specs.declared.form.Decoded.TheVariants.{Form as Spelled, Undefined, Short}
+use Rattle.i386_decode.specs.declared.form.Form.{Form}
+use Rattle.i386_effects.specs.Effect.{Effect as FormEffect, effect_of}
+use Rattle.i386_effects.specs.declared.change.Outcome.{Outcome}
+use Rattle.i386_effects.specs.declared.change.Outcome.TheVariants as outcome
+use Rattle.i386_strings.specs.Iteration.{IterationEffect, iteration}
+use Rattle.i386_strings.specs.declared.iteration.Iteration.{Iteration}
+use Rattle.i386_strings.specs.declared.iteration.Iteration.TheVariants.{More, Finished, Outside as OutsideAccess}
+use Rattle.i386_execute.specs.Changes.{change}
+use Rattle.i386_execute.specs.Loads.{loads}
 use Rattle.i386_execute.specs.declared.unit.Stepped.{Stepped}
-use Rattle.i386_execute.specs.declared.unit.Stepped.TheVariants.{Next, Trap, Outside}
+use Rattle.i386_execute.specs.declared.unit.Stepped.TheVariants.{Next, Trap, Interrupt, Privileged, Outside, Port}
 
 -- what a unit came to, with the registers and what the bus reaches after it
 pub record Effect (D : Type 0) : Type 0 where
@@ -23,41 +31,64 @@ pub record Effect (D : Type 0) : Type 0 where
 abbrev pub unchanged : {D : Type 0} → Stepped → Registers → State D → Effect D
 unchanged stepped regs st = record { stepped = stepped; registers = regs; bus = st }
 
--- the flags of an increment, which leaves the carry (INC)
-abbrev pub incremented_flags : ℕ → Eflags → Eflags
-incremented_flags a f = let sum = (a + 1) % 2 ^ 32 in
-    record f { parity = count_ones (sum % 256) % 2 == 0; adjust = a % 16 == 15; zero = sum == 0; sign = nat_le (2 ^ 31) sum; overflow = sum == 2 ^ 31 }
-
--- a displacement of a byte with its sign, as a doubleword
-abbrev pub extended : ℕ → ℕ
-extended d = if nat_lt d 128 then d else d + (2 ^ 32 - 256)
-
 -- the address so many bytes on
 abbrev pub onward : ℕ → ℕ → ℕ
 onward eip count = (eip + count) % 2 ^ 32
 
-abbrev pub incremented : ℕ → Registers → Registers
-incremented r regs = let a = slice_index regs.general r in
-    record regs { general = slice_set regs.general r ((a + 1) % 2 ^ 32); eflags = incremented_flags a regs.eflags }
+-- ---- an instruction that isn't a string instruction
 
--- the registers after an instruction of so many bytes
-abbrev pub performed : Form → ℕ → Registers → Registers
-performed (Increment r) count regs = incremented (r % 8) (record regs { eip = onward regs.eip count })
-performed (Jump d) count regs = record regs { eip = onward (onward regs.eip count) (extended d) }
+-- the registers with EIP behind an instruction of n bytes
+abbrev pub moved_on : ℕ → Registers → Registers
+moved_on n regs = record regs { eip = onward regs.eip n }
+
+-- its effect: its loads, and the change that their words give
+unfoldable pub performed : {D : Type 0} → Ports D → Form → ℕ → Registers → State D → FormEffect D
+performed ports form n regs st =
+    effect_of ports (loads form.op form (moved_on n regs)) (change form.op form n (moved_on n regs)) regs st
+
+abbrev pub stepped_by : Outcome → Stepped
+stepped_by outcome.Performed = Next
+stepped_by (outcome.Trap vector) = Trap vector
+stepped_by (outcome.Interrupt vector) = Interrupt vector
+stepped_by (outcome.Privileged kind n) = Privileged kind n
+stepped_by (outcome.Outside kind at) = Outside kind at
+stepped_by (outcome.Port port) = Port port
+
+abbrev pub unit_of : {D : Type 0} → FormEffect D → Effect D
+unit_of e = record { stepped = stepped_by e.outcome; registers = e.registers; bus = e.bus }
+
+-- ---- a string instruction
+
+-- EIP moves behind it with its last iteration, and stays till then
+abbrev pub stepped_on : Iteration → Stepped
+stepped_on More = Next
+stepped_on Finished = Next
+stepped_on (OutsideAccess kind at) = Outside kind at
+
+abbrev pub registers_on : Iteration → ℕ → Registers → Registers
+registers_on More n regs = regs
+registers_on Finished n regs = moved_on n regs
+registers_on (OutsideAccess kind at) n regs = regs
+
+abbrev pub string_unit : {D : Type 0} → ℕ → IterationEffect D → Effect D
+string_unit n e = record { stepped = stepped_on e.iteration; registers = registers_on e.iteration n e.registers; bus = e.bus }
+
+-- ---- the unit at EIP
 
 -- what bytes at EIP that spell this come to. Where they are the beginning of an instruction, the byte behind them is
 -- the first that lies outside
-abbrev pub unit_by : {D : Type 0} → ℕ → Registers → State D → Decoded → Effect D
-unit_by fetched regs st (Spelled form count) = record { stepped = Next; registers = performed form count regs; bus = st }
-unit_by fetched regs st Undefined = unchanged (Trap 6) regs st
-unit_by fetched regs st Short = unchanged (Outside Fetch (onward regs.eip fetched)) regs st
+abbrev pub unit_by : {D : Type 0} → ℕ → Ports D → Registers → State D → Decoded → Effect D
+unit_by fetched ports regs st (Spelled form n) =
+    if is_string form.op then string_unit n (iteration form regs st) else unit_of (performed ports form n regs st)
+unit_by fetched ports regs st Undefined = unchanged (Trap 6) regs st
+unit_by fetched ports regs st Short = unchanged (Outside Fetch (onward regs.eip fetched)) regs st
 
 -- the bytes at EIP that are on the side, at most fifteen
 abbrev pub fetched_at : ℕ → Side → List ℕ
 fetched_at eip side = bytes_from side eip 15
 
 unfoldable pub unit : {D : Type 0} → Ports D → Registers → State D → Effect D
-unit ports regs st = unit_by (length (fetched_at regs.eip st.side)) regs st (decode_of (fetched_at regs.eip st.side))
+unit ports regs st = unit_by (length (fetched_at regs.eip st.side)) ports regs st (decode_of (fetched_at regs.eip st.side))
 
 -- the address behind what bytes at EIP spell
 abbrev pub behind : ℕ → Decoded → ℕ

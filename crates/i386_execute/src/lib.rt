@@ -1,10 +1,21 @@
-//! One unit of an i386 processor over any bus.
-//!
-//! For now the processor has two forms of instruction: INC of a register, and JMP with a displacement of a byte. All
-//! other bytes are the invalid opcode.
+//! One unit of an i386 processor over any bus: the instruction at EIP, performed whole or not at all.
 #![tactic(auto)]
 
-mod form;
+mod arithmetic;
+mod bits;
+mod changes;
+mod flags;
+mod interrupts;
+mod jumps;
+mod loads;
+mod moves;
+mod own_flag;
+mod products;
+mod results;
+mod stack;
+#[cfg(test)]
+mod tests;
 mod unit;
 
+pub use own_flag::privileged;
 pub use unit::{Stepped, after, step};

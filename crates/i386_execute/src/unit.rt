@@ -1,10 +1,16 @@
 // One unit.
-ghost use Rattle.std.specs.Prelude.{◌≡◌, ◌≢◌, ◌<◌, ◌+◌, ◌%◌, ◌^◌, length};
+ghost use Rattle.std.specs.Prelude.{◌≡◌, ◌≢◌, ◌<◌, ◌+◌, ◌%◌, ◌^◌, length, true};
 ghost use Rattle.memory_model.specs.Laws.{SamePlace};
-ghost use Rattle.i386_execute.specs.Unit.{unit, address_behind, performed, incremented_flags, extended};
+ghost use Rattle.i386_decode.specs.WellFormed.{is_string};
+ghost use Rattle.i386_strings.specs.Iteration.{iteration};
+ghost use Rattle.i386_execute.specs.Unit.{unit, address_behind, moved_on, performed, stepped_by, string_unit};
 
-use crate::form::{Decoded, Form, decode};
-use cpu_state::{Access, Bus, Eflags, Privileged, Registers};
+use crate::changes::change;
+use crate::loads::loads;
+use cpu_state::{Access, Bus, Op, Privileged, Registers};
+use i386_decode::{Decoded, Form, decode};
+use i386_effects::{Outcome, Words, apply, load_all};
+use i386_strings::{Iteration, iterate};
 
 /// What a unit came to. Only in the first case anything changed.
 #[derive(Clone, Copy, Debug, PartialEq, Eq)]
@@ -24,7 +30,7 @@ pub enum Stepped {
 }
 
 /// The exception of an invalid opcode (Intel 80386 manual, section 9.8.6).
-const INVALID_OPCODE: u8 = 6;
+pub(crate) const INVALID_OPCODE: u8 = 6;
 
 // An address so many bytes on.
 fn onward(eip: u32, count: u32) -> u32
@@ -33,40 +39,77 @@ fn onward(eip: u32, count: u32) -> u32
     eip.wrapping_add(count)
 }
 
-fn after_increment(a: u32, flags: Eflags) -> Eflags
-    ensures { result ≡ incremented_flags a flags }
+// The registers with EIP behind an instruction of so many bytes.
+pub(crate) fn moved_on(length: u8, regs: &Registers) -> Registers
+    ensures { result ≡ moved_on length regs.now }
 {
-    let sum = a.wrapping_add(1);
-    Eflags {
-        parity: (sum % 256).count_ones() % 2 == 0,
-        adjust: a % 16 == 15,
-        zero: sum == 0,
-        sign: sum >= 1 << 31,
-        overflow: sum == 1 << 31,
-        ..flags
+    let mut behind = *regs;
+    behind.eip = onward(regs.eip, u32::from(length));
+    behind
+}
+
+// Whether an operation is a string instruction.
+fn is_string(op: Op) -> bool
+    ensures { result ≡ is_string op }
+{
+    match op {
+        Op::Movs => true,
+        Op::Cmps => true,
+        Op::Stos => true,
+        Op::Lods => true,
+        Op::Scas => true,
+        _ => false,
     }
 }
 
-// A displacement of a byte, as a doubleword.
-fn extend(displacement: u8) -> u32
-    ensures { result ≡ extended displacement }
+// What an outcome is of a unit.
+pub(crate) fn stepped_by(outcome: Outcome) -> Stepped
+    ensures value { result ≡ stepped_by outcome }
+    ensures next { result ≢ Stepped.Next → outcome ≢ Outcome.Performed }
 {
-    let low = u32::from(displacement);
-    if low < 0x80 { low } else { low + 0xffff_ff00 }
+    match outcome {
+        Outcome::Performed => Stepped::Next,
+        Outcome::Trap(vector) => Stepped::Trap(vector),
+        Outcome::Interrupt(vector) => Stepped::Interrupt(vector),
+        Outcome::Privileged(kind, length) => Stepped::Privileged(kind, length),
+        Outcome::Outside(kind, at) => Stepped::Outside(kind, at),
+        Outcome::Port(port) => Stepped::Port(port),
+    }
 }
 
-fn perform(form: Form, count: u8, regs: &mut Registers)
-    ensures { regs.new ≡ performed form count regs.old }
+// Performs a form of so many bytes that isn't a string instruction.
+#[tactic(auto, unfolding(crate::specs::Unit::performed))]
+fn perform<B: Bus>(form: &Form, length: u8, regs: &mut Registers, bus: &mut B) -> Outcome
+    ensures effect { record { outcome = result; registers = regs.new; bus = B.state bus.new } ≡ performed B.ports form.now length regs.old (B.state bus.old) }
+    ensures unchanged { result ≢ Outcome.Performed → (regs.new ≡ regs.old) × (B.state bus.new ≡ B.state bus.old) }
+    ensures place { SamePlace (B.state bus.old).side (B.state bus.new).side }
+    ensures lenders { B.lenders bus.new ≡ B.lenders bus.old }
 {
-    regs.eip = onward(regs.eip, u32::from(count));
-    match form {
-        Form::Increment(register) => {
-            let place = (register % 8) as usize;
-            let a = regs.general[place];
-            regs.eflags = after_increment(a, regs.eflags);
-            regs.general[place] = a.wrapping_add(1);
+    let mut behind = moved_on(length, regs);
+    let touches = loads(form, &behind);
+    let mut words = Words::new();
+    if let Some(at) = load_all(touches.as_slice(), &mut words, bus) {
+        return Outcome::Outside(Access::Load, at);
+    }
+    let ending = change(form, length, &mut behind, words.as_slice());
+    apply(&ending, &behind, regs, bus)
+}
+
+// Performs one iteration of a string instruction of so many bytes.
+fn perform_string<B: Bus>(form: &Form, length: u8, regs: &mut Registers, bus: &mut B) -> Stepped
+    requires { is_string form.now.op ≡ true }
+    ensures effect { record { stepped = result; registers = regs.new; bus = B.state bus.new } ≡ string_unit length (iteration form.now regs.old (B.state bus.old)) }
+    ensures unchanged { result ≢ Stepped.Next → (regs.new ≡ regs.old) × (B.state bus.new ≡ B.state bus.old) }
+    ensures place { SamePlace (B.state bus.old).side (B.state bus.new).side }
+    ensures lenders { B.lenders bus.new ≡ B.lenders bus.old }
+{
+    match iterate(form, regs, bus) {
+        Iteration::More => Stepped::Next,
+        Iteration::Finished => {
+            regs.eip = onward(regs.eip, u32::from(length));
+            Stepped::Next
         }
-        Form::Jump(displacement) => regs.eip = onward(regs.eip, extend(displacement)),
+        Iteration::Outside(kind, at) => Stepped::Outside(kind, at),
     }
 }
 
@@ -81,9 +124,12 @@ pub fn step<B: Bus>(regs: &mut Registers, bus: &mut B) -> Stepped
     let mut bytes = [0; 15];
     let count = bus.fetch(regs.eip, &mut bytes);
     match decode(&bytes[..count]) {
-        Decoded::Form(form, size) => {
-            perform(form, size, regs);
-            Stepped::Next
+        Decoded::Form(form, length) => {
+            if is_string(form.op) {
+                perform_string(&form, length, regs, bus)
+            } else {
+                stepped_by(perform(&form, length, regs, bus))
+            }
         }
         Decoded::Undefined => Stepped::Trap(INVALID_OPCODE),
         Decoded::Short => Stepped::Outside(Access::Fetch, onward(regs.eip, count as u32)),
@@ -98,7 +144,7 @@ pub fn after<B: Bus>(regs: &Registers, bus: &B) -> u32
     let mut bytes = [0; 15];
     let count = bus.fetch(regs.eip, &mut bytes);
     match decode(&bytes[..count]) {
-        Decoded::Form(_, size) => onward(regs.eip, u32::from(size)),
+        Decoded::Form(_, length) => onward(regs.eip, u32::from(length)),
         Decoded::Undefined | Decoded::Short => regs.eip,
     }
 }

@@ -1,8 +1,8 @@
 // The end lines.
 ghost use Rattle.std.specs.Prelude.{◌≡◌, ◌∷◌};
-ghost use Rattle.cpu_state.specs.Eflags.{word_of};
+ghost use Rattle.soft_entry.specs.Entry.{flags_word};
 
-use cpu_state::Registers;
+use cpu_state::{Eflags, Registers};
 use trace_lines::{GLine, Mode};
 
 fn end_words(eip: u32, word: u32, general: &[u32; 8]) -> [u32; 10]
@@ -15,10 +15,16 @@ fn end_words(eip: u32, word: u32, general: &[u32; 8]) -> [u32; 10]
     words
 }
 
-/// The guest's first end line.
-pub fn guest_end(registers: &Registers, mode: Mode) -> GLine
-    ensures { result ≡ GLine.End mode (registers.now.eip ∷ word_of registers.now.eflags ∷ registers.now.general) }
+/// The guest's first end line, in which bit 9 of EFLAGS is the soft flag.
+pub fn guest_end(registers: &Registers, flag: bool, mode: Mode) -> GLine
+    ensures { result ≡ GLine.End mode (registers.now.eip ∷ flags_word flag registers.now.eflags ∷ registers.now.general) }
 {
-    let word = registers.eflags.word();
-    GLine::End(mode, end_words(registers.eip, word, &registers.general))
+    let eflags = Eflags {
+        interrupt: flag,
+        ..registers.eflags
+    };
+    GLine::End(
+        mode,
+        end_words(registers.eip, eflags.word(), &registers.general),
+    )
 }

@@ -12,6 +12,7 @@ use crate::unit::guest_unit;
 use cpu_state::Registers;
 use flat_memory::FlatMemory;
 use outside_io::NoMemory;
+use soft_flags::SoftFlags;
 use std::marker::Model;
 use trace_lines::{GLine, Lines, Mode, Who};
 
@@ -23,12 +24,13 @@ pub struct Parts {
     pub entry: u32,
 }
 
-/// The machine: one memory, one set of registers, the guest's mode, what is on the processor, and how many ticks were
+/// The machine: one memory, one set of registers, the guest's soft flags and mode, what is on the processor, and how many ticks were
 /// run. It is seen as these parts. The registers belong to what is on the processor.
 #[derive(Drop)]
 pub struct Machine {
     memory: FlatMemory,
     registers: Registers,
+    soft: SoftFlags,
     mode: Mode,
     on: Option<Who>,
     ticks: u32,
@@ -36,13 +38,14 @@ pub struct Machine {
 
 impl Model for Machine {
     ghost use Rattle.std.specs.Prelude.{◌≤◌, length};
+    ghost use Rattle.soft_flags.specs.SoftFlags.{HasTableIn};
     ghost use Rattle.rt_core.specs.Machine.{MachineParts};
 
     ghost Value = { MachineParts };
 
-    ghost view = { λ m. record { memory = m.memory; registers = m.registers; mode = m.mode; on = m.on; ticks = m.ticks } };
+    ghost view = { λ m. record { memory = m.memory; registers = m.registers; soft = m.soft; mode = m.mode; on = m.on; ticks = m.ticks } };
 
-    ghost invariant = { λ m. m.ticks ≤ 1000000000 };
+    ghost invariant = { λ m. (m.ticks ≤ 1000000000) × (length m.memory.guest ≤ 16777216) × HasTableIn m.soft (length m.memory.guest) };
 }
 
 impl Machine {
@@ -62,6 +65,7 @@ impl Machine {
         Ok(Machine {
             memory,
             registers: Registers::new(entry, size),
+            soft: SoftFlags::new(),
             mode: Mode::Runs,
             on: None,
             ticks: 0,
@@ -71,7 +75,7 @@ impl Machine {
     /// One tick. Afterwards `lines` holds just its lines.
     pub fn tick(&mut self, lines: &mut Lines)
         requires { self.old.ticks < 1000000000 }
-        ensures guest { outcome_with self.new.memory self.new.registers self.new.mode lines.new.g ≡ bare_tick (is_guest self.new.on) (bare_of self.old) }
+        ensures guest { outcome_with self.new.memory self.new.registers self.new.soft self.new.mode lines.new.g ≡ bare_tick (self.old.ticks + 1) (is_guest self.new.on) (bare_of self.old) }
         ensures holder { self.new.on ≡ fold held_by self.old.on lines.new.r }
         ensures picked { lines.new.r ≡ guest_picked self.old.on }
         ensures hardware { lines.new.h ≡ [] }
@@ -84,7 +88,14 @@ impl Machine {
         devices();
         drain();
         pick(&mut self.on, lines);
-        guest_unit(&mut self.memory, &mut self.registers, &mut self.mode, lines);
+        guest_unit(
+            self.ticks,
+            &mut self.memory,
+            &mut self.registers,
+            &mut self.soft,
+            &mut self.mode,
+            lines,
+        );
         timer();
     }
 
@@ -92,6 +103,6 @@ impl Machine {
     pub fn end(&self) -> GLine
         ensures { result ≡ end_line (bare_of self.now) }
     {
-        guest_end(&self.registers, self.mode)
+        guest_end(&self.registers, self.soft.flag, self.mode)
     }
 }

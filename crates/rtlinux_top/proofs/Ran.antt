@@ -18,12 +18,13 @@ unfolding bare_after holder
 ran_none m first nobody = record { bare = refl; on = nobody; ticks = first }
 
 -- the tick after t ticks is that of the bare machine
-same_tick : (b : Bare) (t : ℕ) (old new : MachineParts) (g : List GLine) (r : List RLine) → HasRunFrom b t old → outcome_with new.memory new.registers new.mode g ≡ bare_tick (is_guest new.on) (bare_of old) → new.on ≡ fold held_by old.on r → r ≡ guest_picked old.on → outcome_with new.memory new.registers new.mode g ≡ bare_tick (is_guest (holder (t + 1) guest_on)) (bare_after b guest_on t)
+same_tick : (b : Bare) (t : ℕ) (old new : MachineParts) (g : List GLine) (r : List RLine) → HasRunFrom b t old → outcome_with new.memory new.registers new.soft new.mode g ≡ bare_tick (old.ticks + 1) (is_guest new.on) (bare_of old) → new.on ≡ fold held_by old.on r → r ≡ guest_picked old.on → outcome_with new.memory new.registers new.soft new.mode g ≡ bare_tick (t + 1) (is_guest (holder (t + 1) guest_on)) (bare_after b guest_on t)
 same_tick b t old new g r before moved held picked =
-    moved ∙ ap (λ (who : Option Who). bare_tick (is_guest who) (bare_of old)) (holder_next t old.on new.on r before.on picked held)
-    ∙ ap (λ (s : Bare). bare_tick (is_guest (holder (t + 1) guest_on)) s) before.bare
+    moved ∙ ap (λ (n : ℕ). bare_tick (n + 1) (is_guest new.on) (bare_of old)) before.ticks
+    ∙ ap (λ (who : Option Who). bare_tick (t + 1) (is_guest who) (bare_of old)) (holder_next t old.on new.on r before.on picked held)
+    ∙ ap (λ (s : Bare). bare_tick (t + 1) (is_guest (holder (t + 1) guest_on)) s) before.bare
 
-pub ran_next : (b : Bare) (t : ℕ) (old new : MachineParts) (g : List GLine) (r : List RLine) → HasRunFrom b t old → outcome_with new.memory new.registers new.mode g ≡ bare_tick (is_guest new.on) (bare_of old) → new.on ≡ fold held_by old.on r → r ≡ guest_picked old.on → new.ticks ≡ old.ticks + 1 → HasRunFrom b (t + 1) new
+pub ran_next : (b : Bare) (t : ℕ) (old new : MachineParts) (g : List GLine) (r : List RLine) → HasRunFrom b t old → outcome_with new.memory new.registers new.soft new.mode g ≡ bare_tick (old.ticks + 1) (is_guest new.on) (bare_of old) → new.on ≡ fold held_by old.on r → r ≡ guest_picked old.on → new.ticks ≡ old.ticks + 1 → HasRunFrom b (t + 1) new
 unfolding bare_after
 ran_next b t old new g r before moved held picked counted = record {
   bare = rw add-one (ap (λ (o : Outcome). o.after) (rw add-one at (same_tick b t old new g r before moved held picked)));
@@ -31,6 +32,6 @@ ran_next b t old new g r before moved held picked counted = record {
   ticks = counted ∙ ap (λ (n : ℕ). n + 1) before.ticks;
 }
 
-pub said_next : (b : Bare) (t : ℕ) (old new : MachineParts) (g : List GLine) (r : List RLine) → HasRunFrom b t old → outcome_with new.memory new.registers new.mode g ≡ bare_tick (is_guest new.on) (bare_of old) → new.on ≡ fold held_by old.on r → r ≡ guest_picked old.on → g ≡ bare_lines b guest_on t
+pub said_next : (b : Bare) (t : ℕ) (old new : MachineParts) (g : List GLine) (r : List RLine) → HasRunFrom b t old → outcome_with new.memory new.registers new.soft new.mode g ≡ bare_tick (old.ticks + 1) (is_guest new.on) (bare_of old) → new.on ≡ fold held_by old.on r → r ≡ guest_picked old.on → g ≡ bare_lines b guest_on t
 unfolding bare_lines
 said_next b t old new g r before moved held picked = ap (λ (o : Outcome). o.lines) (rw add-one at (same_tick b t old new g r before moved held picked))

@@ -3,7 +3,7 @@ use Rattle.std.specs.Prelude.{ℕ, List, [], ◌∷◌, ◌++◌, length, drop, 
 use Rattle.std.specs.List.{list_any}
 use Rattle.flat_memory.specs.Zeros.{zeros}
 use Rattle.trace_lines.specs.declared.lines.GLine.{GLine}
-use Rattle.trace_lines.specs.declared.lines.GLine.TheVariants.{Shutdown, Breach, End}
+use Rattle.trace_lines.specs.declared.lines.GLine.TheVariants.{Int, Halt, Shutdown, Breach, End}
 use Rattle.trace_lines.specs.declared.lines.RLine.{RLine}
 use Rattle.trace_lines.specs.declared.lines.RLine.TheVariants.{On}
 use Rattle.trace_lines.specs.declared.lines.Who.TheVariants.{Guest}
@@ -27,6 +27,8 @@ abbrev pub flat_lines : List ℕ → ℕ → List (ℕ × GLine)
 flat_lines image n = lines_from (first_state (flat_start image)) n
 
 abbrev pub is_breach : GLine → Bool
+is_breach (Int vector) = false
+is_breach Halt = false
 is_breach (Shutdown vector) = false
 is_breach (Breach kind) = true
 is_breach (End mode words) = false

@@ -93,7 +93,7 @@ fn undefined_bytes_and_the_edge_stop_the_guest(rt: HostRuntime) -> Result<(), Fa
         answers(
             alloc,
             &["flat", "k.bin", "1"],
-            Vec::new(alloc),
+            [0x0f, 0x0b].to_vec(alloc)?,
             Status::Done,
             b"G 1 shutdown 6\nG 1 end stopped 00000000 00000002 00000000 00000000 00000000 00000000 00010000 00000000 00000000 00000000\n"
         )?
@@ -175,15 +175,6 @@ fn ticks_and_files_are_refused(rt: HostRuntime) -> Result<(), Fail> {
         answers(
             alloc,
             &["flat", "k.bin", "5"],
-            vec![in alloc; 0u8; 33_554_432]?,
-            refused(21),
-            b"E 21 k.bin\n"
-        )?
-    );
-    assert!(rt;
-        answers(
-            alloc,
-            &["flat", "k.bin", "5"],
             vec![in alloc; 0u8; 33_554_433]?,
             refused(12),
             b"E 12 k.bin\n"
@@ -235,7 +226,7 @@ fn other_words_are_usage(rt: HostRuntime) -> Result<(), Fail> {
 fn a_failing_put_ends_the_run(rt: HostRuntime) -> Result<(), Fail> {
     let alloc = rt.alloc();
     let words = words_of(alloc, &["flat", "k.bin", "3"])?;
-    let mut store = store_of(alloc, Vec::new(alloc), &[])?;
+    let mut store = store_of(alloc, [0x0f, 0x0b].to_vec(alloc)?, &[])?;
     let mut sink = MemorySink::new(alloc, 4000, [(2, 4)].to_vec(alloc)?)
         .ok()
         .ok_or("no sink")?;
@@ -258,5 +249,140 @@ fn a_failing_fetch_is_told(rt: HostRuntime) -> Result<(), Fail> {
     assert_eq!(rt; status, Status::Outside(Device::Read));
     assert_eq!(rt; sink.written(), b"E read k.bin\n".as_slice());
     assert_eq!(rt; status.number(), 2);
+    Ok(())
+}
+
+// Worked rows: ticks, image, whether there is a breach, and output.
+struct Row {
+    ticks: &'static str,
+    image: &'static [u8],
+    breach: bool,
+    output: &'static [u8],
+}
+
+static ROWS: [Row; 16] = [
+    Row {
+        ticks: "5",
+        image: &[0xa3, 0xfc, 0xff, 0x00, 0x00, 0xa3, 0xfd, 0xff, 0x00, 0x00],
+        breach: true,
+        output: b"G 2 breach store 0000fffd\nG 5 end stopped 00000005 00000002 00000000 00000000 00000000 00000000 00010000 00000000 00000000 00000000\n",
+    },
+    Row {
+        ticks: "3",
+        image: &[0xbc, 0x10, 0x00, 0x00, 0x00, 0x60],
+        breach: true,
+        output: b"G 2 breach store fffffffc\nG 3 end stopped 00000005 00000002 00000000 00000000 00000000 00000000 00000010 00000000 00000000 00000000\n",
+    },
+    Row {
+        ticks: "2",
+        image: &[0xfa],
+        breach: true,
+        output: b"G 1 breach cli\nG 2 end stopped 00000000 00000002 00000000 00000000 00000000 00000000 00010000 00000000 00000000 00000000\n",
+    },
+    Row {
+        ticks: "4",
+        image: &[0xcd, 0xf3, 0x58, 0x9c],
+        breach: true,
+        output: b"G 3 breach pushf\nG 4 end stopped 00000003 00000002 00000002 00000000 00000000 00000000 00010000 00000000 00000000 00000000\n",
+    },
+    Row {
+        ticks: "3",
+        image: &[0xcd, 0xf1, 0xcd, 0xf3, 0x58],
+        breach: false,
+        output: b"G 3 end runs 00000005 00000202 00000202 00000000 00000000 00000000 00010000 00000000 00000000 00000000\n",
+    },
+    Row {
+        ticks: "2",
+        image: &[0xf7, 0xf0],
+        breach: false,
+        output: b"G 1 shutdown 0\nG 2 end stopped 00000000 00000002 00000000 00000000 00000000 00000000 00010000 00000000 00000000 00000000\n",
+    },
+    Row {
+        ticks: "6",
+        image: &[
+            0xb8, 0x01, 0x00, 0x00, 0x00, 0xbb, 0x20, 0x00, 0x00, 0x00, 0xb9, 0x01, 0x00, 0x00,
+            0x00, 0xcd, 0xf6, 0xf7, 0xf2, 0x00, 0x00, 0x00, 0x00, 0x00, 0x00, 0x00, 0x00, 0x00,
+            0x00, 0x00, 0x00, 0x00, 0x30, 0x00, 0x08, 0x00, 0x00, 0x8e, 0x00, 0x00, 0x00, 0x00,
+            0x00, 0x00, 0x00, 0x00, 0x00, 0x00, 0x58,
+        ],
+        breach: false,
+        output: b"G 5 int 0\nG 6 end runs 00000031 00000002 00000011 00000001 00000000 00000020 0000fff8 00000000 00000000 00000000\n",
+    },
+    Row {
+        ticks: "3",
+        image: &[0xb1, 0x03, 0xf3, 0xa4, 0x40],
+        breach: false,
+        output: b"G 3 end runs 00000002 00000002 00000000 00000001 00000000 00000000 00010000 00000000 00000002 00000002\n",
+    },
+    Row {
+        ticks: "2",
+        image: &[0xf3, 0xa4, 0x40],
+        breach: false,
+        output: b"G 2 end runs 00000003 00000002 00000001 00000000 00000000 00000000 00010000 00000000 00000000 00000000\n",
+    },
+    Row {
+        ticks: "2",
+        image: &[0xb0, 0x7f, 0x04, 0x01],
+        breach: false,
+        output: b"G 2 end runs 00000004 00000892 00000080 00000000 00000000 00000000 00010000 00000000 00000000 00000000\n",
+    },
+    Row {
+        ticks: "2",
+        image: &[0xb0, 0x81, 0xd0, 0xe0],
+        breach: false,
+        output: b"G 2 end runs 00000004 00000803 00000002 00000000 00000000 00000000 00010000 00000000 00000000 00000000\n",
+    },
+    Row {
+        ticks: "1",
+        image: &[],
+        breach: false,
+        output: b"G 1 end runs 00000002 00000046 00000000 00000000 00000000 00000000 00010000 00000000 00000000 00000000\n",
+    },
+    Row {
+        ticks: "2",
+        image: &[0xe9, 0xfa, 0xff, 0x00, 0x00],
+        breach: true,
+        output: b"G 2 breach fetch 00010000\nG 2 end stopped 0000ffff 00000002 00000000 00000000 00000000 00000000 00010000 00000000 00000000 00000000\n",
+    },
+    Row {
+        ticks: "1",
+        image: &[0xcd, 0xf7],
+        breach: true,
+        output: b"G 1 breach int 247\nG 1 end stopped 00000000 00000002 00000000 00000000 00000000 00000000 00010000 00000000 00000000 00000000\n",
+    },
+    Row {
+        ticks: "1",
+        image: &[0x0f, 0x0b],
+        breach: false,
+        output: b"G 1 shutdown 6\nG 1 end stopped 00000000 00000002 00000000 00000000 00000000 00000000 00010000 00000000 00000000 00000000\n",
+    },
+    Row {
+        ticks: "2",
+        image: &[0xcd, 0xf1, 0x40],
+        breach: false,
+        output: b"G 2 end runs 00000003 00000202 00000001 00000000 00000000 00000000 00010000 00000000 00000000 00000000\n",
+    },
+];
+
+fn row_holds(alloc: Global, row: &Row) -> Result<bool, Fail> {
+    let status = if row.breach {
+        Status::Breach
+    } else {
+        Status::Done
+    };
+    answers(
+        alloc,
+        &["flat", "k.bin", row.ticks],
+        row.image.to_vec(alloc)?,
+        status,
+        row.output,
+    )
+}
+
+#[test]
+fn worked_rows_hold(rt: HostRuntime) -> Result<(), Fail> {
+    for row in &ROWS {
+        assert!(rt; row_holds(rt.alloc(), row)?);
+    }
     Ok(())
 }

@@ -1,5 +1,5 @@
 -- The lines of more ticks go on from those of fewer.
-use Rattle.std.proofs.Common.{◌≡◌, ℕ, zero, suc, ◌+◌, List, [], ◌++◌, ap, sym, ◌∙◌, append_assoc, add-zero, add-suc}
+use Rattle.std.proofs.Common.{ℕ, zero, suc, ◌+◌, List, [], ◌++◌, ap, sym, ◌∙◌, append_assoc, add-zero, add-suc}
 use Rattle.std.proofs.lemmas.List.{append-nil}
 use Rattle.run_lines.specs.Ticks.{lines_to, stamped, IsPrefixOf}
 

@@ -6,7 +6,7 @@ use Rattle.trace_lines.specs.declared.lines.Who.TheVariants.{Guest}
 use Rattle.trace_lines.specs.declared.lines.RLine.{RLine}
 use Rattle.trace_lines.specs.declared.lines.RLine.TheVariants.{On}
 use Rattle.trace_lines.specs.declared.lines.GLine.{GLine}
-use Rattle.trace_lines.specs.declared.lines.GLine.TheVariants.{Shutdown, Breach, End}
+use Rattle.trace_lines.specs.declared.lines.GLine.TheVariants.{Int as Entered, Halt, Shutdown, Breach, End}
 use Rattle.trace_lines.specs.declared.lines.BreachKind.{BreachKind}
 use Rattle.trace_lines.specs.declared.lines.BreachKind.TheVariants.{Cli, Sti, Iret, Pushf, Popf, Hlt, Int, Port, Fetch, Load, Store}
 use Rattle.trace_lines.specs.declared.lines.Mode.{Mode}
@@ -42,6 +42,8 @@ spaced_words [] = []
 spaced_words (word ∷ words) = (32 ∷ hex_text 8 word) ++ spaced_words words
 
 abbrev pub g_words : GLine → List ℕ
+g_words (Entered vector) = codes "int " ++ decimal vector
+g_words Halt = codes "halt"
 g_words (Shutdown vector) = codes "shutdown " ++ decimal vector
 g_words (Breach kind) = codes "breach " ++ breach_words kind
 g_words (End mode words) = codes "end " ++ mode_word mode ++ spaced_words words

@@ -45,6 +45,10 @@ pub enum BreachKind {
 /// A line of the guest's half.
 #[derive(Clone, Copy, Debug, PartialEq, Eq)]
 pub enum GLine {
+    /// a trap or an interrupt of this vector was entered
+    Int(u32),
+    /// the guest halted
+    Halt,
     /// no present descriptor for this vector
     Shutdown(u32),
     Breach(BreachKind),

@@ -10,6 +10,8 @@ fn g_is(tick: u32, line: GLine, text: &[u8]) -> bool {
 
 #[test]
 fn guest_lines_have_their_texts(rt: HostRuntime) -> Result<(), Fail> {
+    assert!(rt; g_is(5, GLine::Int(0), b"G 5 int 0"));
+    assert!(rt; g_is(9, GLine::Halt, b"G 9 halt"));
     assert!(rt; g_is(1, GLine::Shutdown(6), b"G 1 shutdown 6"));
     assert!(rt;
         g_is(

@@ -116,6 +116,11 @@ fn add_g_words(text: &mut LineText, line: &GLine)
     ensures short { length (g_words line.now) ≤ 110 }
 {
     match line {
+        GLine::Int(vector) => {
+            add(text, b"int ");
+            add_decimal(text, *vector);
+        }
+        GLine::Halt => add(text, b"halt"),
         GLine::Shutdown(vector) => {
             add(text, b"shutdown ");
             add_decimal(text, *vector);

@@ -1,0 +1,98 @@
+-- The stack (Intel 80386 manual, sections 3.1.2, 3.5.1 and 3.7).
+use Rattle.std.specs.Prelude.{ℕ, ◌+◌, ◌-◌, ◌*◌, ◌%◌, ◌^◌, List, [], ◌∷◌, slice_index, slice_set}
+use Rattle.cpu_state.specs.Width.{size}
+use Rattle.cpu_state.specs.declared.registers.Registers.{Registers}
+use Rattle.cpu_state.specs.declared.width.Width.{Width}
+use Rattle.cpu_state.specs.declared.width.Width.TheVariants.{W16, W32}
+use Rattle.i386_decode.specs.declared.form.Form.{Form}
+use Rattle.i386_decode.specs.declared.form.Operand.{Operand}
+use Rattle.i386_decode.specs.declared.form.Operand.TheVariants.{Immediate}
+use Rattle.i386_effects.specs.Operands.{value_of, with_operand, writes_to}
+use Rattle.i386_effects.specs.Change.{Change, Done}
+use Rattle.i386_effects.specs.declared.lists.Touch.{Touch}
+use Rattle.i386_effects.specs.declared.lists.Write.{Write}
+use Rattle.i386_execute.specs.Results.{first, with_general}
+
+-- ESP and EBP
+abbrev pub esp : Registers → ℕ
+esp r = slice_index r.general 4
+
+abbrev pub ebp : Registers → ℕ
+ebp r = slice_index r.general 5
+
+-- ESP moved down by n bytes, or up, modulo 2^32
+abbrev pub below : Registers → ℕ → ℕ
+below r n = (esp r + (2 ^ 32 - n)) % 2 ^ 32
+
+abbrev pub above : Registers → ℕ → ℕ
+above r n = (esp r + n) % 2 ^ 32
+
+-- the general registers with another ESP
+abbrev pub with_esp : ℕ → List ℕ → List ℕ
+with_esp x g = slice_set g 4 x
+
+-- PUSH: the old value of ESP too
+unfoldable pub pushed : Form → Registers → List ℕ → Change
+pushed f r ws =
+    Done (record r { general = with_esp (below r (size f.width)) r.general })
+    (record { at = below r (size f.width); width = f.width; value = first f r ws } ∷ [])
+
+-- PUSHA: the store of register i
+abbrev pub pushed_register : Registers → ℕ → Write
+pushed_register r i = record { at = below r (4 * i + 4); width = W32; value = slice_index r.general i }
+
+-- EAX first and EDI last, with the old ESP
+unfoldable pub all_pushed : Registers → Change
+all_pushed r =
+    Done (record r { general = with_esp (below r 32) r.general })
+    (pushed_register r 0 ∷ pushed_register r 1 ∷ pushed_register r 2 ∷ pushed_register r 3 ∷ pushed_register r 4 ∷ pushed_register r 5 ∷ pushed_register r 6 ∷ pushed_register r 7 ∷ [])
+
+-- POP
+unfoldable pub top_touches : Width → Registers → List Touch
+top_touches w r = record { at = esp r; width = w } ∷ []
+
+abbrev pub popped_into : Form → Registers → ℕ → List ℕ → Change
+popped_into f r x g = Done (record r { general = with_operand f.width f.first x g }) (writes_to f.width f.first x g)
+
+-- the address of the operand is computed after ESP has moved, and ESP as operand keeps what was popped
+unfoldable pub popped : Form → Registers → List ℕ → Change
+popped f r ws = popped_into f r (slice_index ws 0) (with_esp (above r (size f.width)) r.general)
+
+-- POPA: a slot above the top of the stack
+abbrev pub slot : Registers → ℕ → Touch
+slot r n = record { at = above r n; width = W32 }
+
+-- EDI first and EAX last; the slot of ESP isn't loaded
+unfoldable pub all_touches : Registers → List Touch
+all_touches r = slot r 0 ∷ slot r 4 ∷ slot r 8 ∷ slot r 16 ∷ slot r 20 ∷ slot r 24 ∷ slot r 28 ∷ []
+
+unfoldable pub all_popped : Registers → List ℕ → Change
+all_popped r ws =
+    with_general r (slice_index ws 6 ∷ slice_index ws 5 ∷ slice_index ws 4 ∷ slice_index ws 3 ∷ above r 32 ∷ slice_index ws 2 ∷ slice_index ws 1 ∷ slice_index ws 0 ∷ [])
+
+-- LEAVE: ESP becomes EBP, and EBP is popped
+unfoldable pub frame_touches : Registers → List Touch
+frame_touches r = record { at = ebp r; width = W32 } ∷ []
+
+unfoldable pub left : Registers → List ℕ → Change
+left r ws = with_general r (with_esp ((ebp r + 4) % 2 ^ 32) (slice_set r.general 5 (slice_index ws 0)))
+
+-- where CALL and JMP go: a displacement counts from behind the instruction
+abbrev pub target_of : Operand → Form → Registers → List ℕ → ℕ
+target_of (Immediate x) f r ws = (r.eip + x) % 2 ^ 32
+target_of _ f r ws = first f r ws
+
+-- CALL pushes the address behind it
+unfoldable pub called : Form → Registers → List ℕ → Change
+called f r ws =
+    Done (record r { general = with_esp (below r 4) r.general; eip = target_of f.first f r ws })
+    (record { at = below r 4; width = W32; value = r.eip } ∷ [])
+
+-- RET, which drops so many bytes more
+unfoldable pub returned : Form → Registers → List ℕ → Change
+returned f r ws =
+    Done (record r { general = with_esp (above r (4 + value_of W16 f.first r.general 0)) r.general; eip = slice_index ws 0 }) []
+
+-- JMP
+unfoldable pub jumped : Form → Registers → List ℕ → Change
+jumped f r ws = Done (record r { eip = target_of f.first f r ws }) []
