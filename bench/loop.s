@@ -1,11 +1,10 @@
-# A boot sector with the loop of examples/loop.bin: inc, dec and a jump, COUNT times; then it ends the emulator.
+# A boot sector with the loop of examples/loop.bin: a decrement and a jump, COUNT times; then it ends the emulator.
     .code16
     .globl _start
 _start:
     cli
     movl $COUNT, %ecx
 again:
-    incl %eax
     decl %ecx
     jnz again
     movw $0xf4, %dx             # QEMU's isa-debug-exit

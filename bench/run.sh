@@ -21,7 +21,7 @@ print(f"{name}: {int(ticks) / seconds / 1e6:.2f} million ticks per second, {peak
 PY
 }
 
-measure "rtlinux, a loop of three instructions" examples/loop.bin 9000000
+measure "rtlinux, a loop of two instructions" examples/loop.bin 9000000
 measure "rtlinux, a computation in C and then a jump to itself" examples/compute/compute.bin 9000000
 
 # A floppy disk that runs the loop so often.
@@ -33,7 +33,7 @@ disk() {
 
 # An emulator's rate is the difference of two runs, so that its start doesn't count. Each run ends within a minute.
 few=100000
-many=3100000
+many=60100000
 compare() {
     local name=$1
     shift
@@ -47,7 +47,7 @@ def seconds(image):
     return time.perf_counter() - start
 try:
     taken = seconds(many_image) - seconds(few_image)
-    count = 3 * (int(many) - int(few))
+    count = 2 * (int(many) - int(few))
     if taken > 0.01:
         print(f"{name}, the same loop: {count / taken / 1e6:.2f} million instructions per second")
     else:
