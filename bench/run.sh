@@ -11,12 +11,19 @@ trap 'rm -rf "$work"' EXIT
 
 measure() {
     python3 - "$program" "$2" "$3" "$1" <<'PY'
-import resource, subprocess, sys, time
+import re, subprocess, sys, time
 program, image, ticks, name = sys.argv[1:]
 start = time.perf_counter()
-subprocess.run([program, "flat", image, ticks], check=True, stdout=subprocess.DEVNULL)
+process = subprocess.Popen([program, "flat", image, ticks], stdout=subprocess.DEVNULL)
+peak = 0
+while process.poll() is None:
+    with open(f"/proc/{process.pid}/status") as status:
+        if (high := re.search(r"VmHWM:\s*(\d+)", status.read())):
+            peak = int(high.group(1))
+    time.sleep(0.001)
 seconds = time.perf_counter() - start
-peak = resource.getrusage(resource.RUSAGE_CHILDREN).ru_maxrss
+if process.returncode != 0:
+    sys.exit(f"bench: the program ended with {process.returncode}")
 print(f"{name}: {int(ticks) / seconds / 1e6:.2f} million ticks per second, {peak} KB at most")
 PY
 }
