@@ -1,0 +1,8 @@
+//! The kinds of lines that a run prints, and the bytes that lines show.
+#![tactic(auto)]
+
+mod kinds;
+mod said;
+
+pub use kinds::{BreachKind, FaultKind, GLine, HLine, Mode, RLine, Who};
+pub use said::Said;
