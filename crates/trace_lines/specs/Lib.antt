@@ -1,2 +1,6 @@
-pub mod TickLines
+pub mod Filled
+pub mod Fits
+pub mod Reading
 pub mod Text
+pub mod TickLines
+pub mod Words

@@ -1,8 +1,8 @@
 -- The lines of one tick, by their letters.
 use Rattle.std.specs.Prelude.{◌≤◌, ℕ, List, []}
-use Rattle.trace_lines.specs.declared.lines.RLine.{RLine}
-use Rattle.trace_lines.specs.declared.lines.GLine.{GLine}
-use Rattle.trace_lines.specs.declared.lines.HLine.{HLine}
+use Rattle.line_kinds.specs.declared.kinds.RLine.{RLine}
+use Rattle.line_kinds.specs.declared.kinds.GLine.{GLine}
+use Rattle.line_kinds.specs.declared.kinds.HLine.{HLine}
 
 pub record TickLines : Type 0 where
   pub r : List RLine

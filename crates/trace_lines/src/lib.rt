@@ -1,13 +1,16 @@
-//! The lines of a run: their kinds, their texts, and the room for those of one tick.
+//! The lines of a run: their texts, and the room for those of one tick.
 #![tactic(auto)]
 
-mod lines;
+mod pieces;
+mod read;
 mod tick_lines;
+mod words;
 mod write;
 
-pub use lines::{BreachKind, GLine, HLine, Mode, RLine, Who};
+pub use line_kinds::{BreachKind, FaultKind, GLine, HLine, Mode, RLine, Said, Who};
+pub use read::{Line, read_line};
 pub use tick_lines::Lines;
-pub use write::{write_g, write_r};
+pub use write::{write_g, write_h, write_r};
 
 #[cfg(test)]
 mod tests;

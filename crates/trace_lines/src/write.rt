@@ -1,159 +1,170 @@
 // The texts of lines.
-ghost use Rattle.std.specs.Prelude.{◌≡◌, ◌≤◌, ◌<◌, ◌+◌, ◌^◌, [], ◌∷◌, ◌++◌, length, decimal, IsTrue};
-ghost use Rattle.line_text.specs.LineText.{Pushes, hex_text};
-ghost use Rattle.trace_lines.specs.Text.{r_text, r_words, who_words, g_text, g_words, breach_words, mode_word, spaced_words, line_of};
+ghost use Rattle.std.specs.Prelude.{◌≡◌, ◌≤◌, [], ◌∷◌, ◌++◌, length, decimal, IsTrue};
+ghost use Rattle.std.specs.Fmt.{signed_decimal};
+ghost use Rattle.line_text.specs.LineText.{Pushes, bytes_text};
+ghost use Rattle.trace_lines.specs.Text.{r_text, r_words, g_text, g_words, h_text, h_words, who_words, fault_word, spaced_words};
 
-use crate::{BreachKind, GLine, Mode, RLine, Who};
+use crate::pieces::{
+    add, add_breach, add_byte, add_bytes, add_decimal, add_numbered, add_signed, add_who,
+    add_words, fault_text, mode_text,
+};
+use crate::{FaultKind, GLine, HLine, RLine, Said, Who};
 use line_text::LineText;
 
-// Appends a text that fits.
-fn add(text: &mut LineText, more: &[u8])
-    requires { length text.old + length more.now ≤ 640 }
-    ensures { text.new ≡ text.old ++ more.now }
+// The function of a gate, its registers and its result.
+fn add_gate(text: &mut LineText, function: u32, registers: &[u32], value: i32)
+    requires room { length text.old ≤ 100 }
+    requires few { length registers.now ≤ 4 }
+    ensures text { text.new ≡ text.old ++ (decimal function ++ (spaced_words registers.now ++ (32 ∷ signed_decimal value))) }
+    ensures short { length (decimal function ++ (spaced_words registers.now ++ (32 ∷ signed_decimal value))) ≤ 120 }
 {
-    let _ = text.push_text(more);
+    add_decimal(text, function);
+    add_words(text, registers);
+    add(text, b" ");
+    add_signed(text, value);
 }
 
-// Appends a number that fits.
-fn add_decimal(text: &mut LineText, n: u32)
-    requires { length text.old + 10 ≤ 640 }
-    ensures text { text.new ≡ text.old ++ decimal n }
-    ensures short { length (decimal n) ≤ 10 }
+// Who faulted, and how.
+fn add_fault(text: &mut LineText, who: Who, kind: FaultKind)
+    requires { length text.old ≤ 100 }
+    ensures text { text.new ≡ text.old ++ (who_words who ++ (32 ∷ fault_word kind)) }
+    ensures short { length (who_words who ++ (32 ∷ fault_word kind)) ≤ 40 }
 {
-    let _ = text.push_decimal(u64::from(n));
+    add_who(text, who);
+    add(text, b" ");
+    add(text, fault_text(kind));
 }
 
-// Appends eight digits that fit.
-fn add_doubleword(text: &mut LineText, n: u32)
-    requires { length text.old + 8 ≤ 640 }
-    ensures text { text.new ≡ text.old ++ hex_text 8 n }
-    ensures short { length (hex_text 8 n) ≡ 8 }
+// The result of a FIFO call, and its bytes.
+fn add_reply(text: &mut LineText, value: i32, said: Said)
+    requires { length text.old ≤ 100 }
+    ensures text { text.new ≡ text.old ++ (signed_decimal value ++ (32 ∷ bytes_text said)) }
+    ensures short { length (signed_decimal value ++ (32 ∷ bytes_text said)) ≤ 524 }
 {
-    let _ = text.push_hex(n, 8);
+    add_signed(text, value);
+    add(text, b" ");
+    add_bytes(text, said.as_bytes());
 }
 
-// Appends four digits that fit.
-fn add_word(text: &mut LineText, n: u16)
-    requires { length text.old + 4 ≤ 640 }
-    ensures text { text.new ≡ text.old ++ hex_text 4 n }
-    ensures short { length (hex_text 4 n) ≡ 4 }
+// Two numbers.
+fn add_two(text: &mut LineText, first: u32, second: u32)
+    requires { length text.old ≤ 100 }
+    ensures text { text.new ≡ text.old ++ (decimal first ++ (32 ∷ decimal second)) }
+    ensures short { length (decimal first ++ (32 ∷ decimal second)) ≤ 21 }
 {
-    let _ = text.push_hex(u32::from(n), 4);
+    add_decimal(text, first);
+    add(text, b" ");
+    add_decimal(text, second);
 }
 
-fn who_word(who: Who) -> &'static [u8]
-    ensures word { result.now ≡ who_words who }
-    ensures short { length result.now ≤ 20 }
+// A FIFO, and bytes.
+fn add_put(text: &mut LineText, fifo: u32, said: Said)
+    requires { length text.old ≤ 100 }
+    ensures text { text.new ≡ text.old ++ (decimal fifo ++ (32 ∷ bytes_text said)) }
+    ensures short { length (decimal fifo ++ (32 ∷ bytes_text said)) ≤ 523 }
 {
-    match who {
-        Who::Guest => b"guest",
-    }
+    add_decimal(text, fifo);
+    add(text, b" ");
+    add_bytes(text, said.as_bytes());
 }
 
-fn mode_text(mode: Mode) -> &'static [u8]
-    ensures word { result.now ≡ mode_word mode }
-    ensures short { length result.now ≤ 7 }
+fn add_r_words(text: &mut LineText, line: &RLine)
+    requires { length text.old ≤ 50 }
+    ensures text { text.new ≡ text.old ++ r_words line.now }
+    ensures short { length (r_words line.now) ≤ 540 }
 {
-    match mode {
-        Mode::Runs => b"runs",
-        Mode::Halted => b"halted",
-        Mode::Stopped => b"stopped",
-    }
-}
-
-fn add_words(text: &mut LineText, words: &[u32])
-    requires room { length text.old ≤ 200 }
-    requires few { length words.now ≤ 10 }
-    ensures text { text.new ≡ text.old ++ spaced_words words.now }
-    ensures short { length (spaced_words words.now) ≤ 90 }
-{
-    for word in words {
-        add(text, b" ");
-        add_doubleword(text, *word);
-    }
-}
-
-// A word and an address.
-fn add_address(text: &mut LineText, word: &[u8], at: u32)
-    requires room { length text.old ≤ 200 }
-    requires short { length word.now ≤ 10 }
-    ensures text { text.new ≡ text.old ++ (word.now ++ hex_text 8 at) }
-    ensures long { length (word.now ++ hex_text 8 at) ≤ 18 }
-{
-    add(text, word);
-    add_doubleword(text, at);
-}
-
-fn add_breach(text: &mut LineText, kind: BreachKind)
-    requires { length text.old ≤ 200 }
-    ensures text { text.new ≡ text.old ++ breach_words kind }
-    ensures short { length (breach_words kind) ≤ 20 }
-{
-    match kind {
-        BreachKind::Cli => add(text, b"cli"),
-        BreachKind::Sti => add(text, b"sti"),
-        BreachKind::Iret => add(text, b"iret"),
-        BreachKind::Pushf => add(text, b"pushf"),
-        BreachKind::Popf => add(text, b"popf"),
-        BreachKind::Hlt => add(text, b"hlt"),
-        BreachKind::Int(vector) => {
-            add(text, b"int ");
-            add_decimal(text, vector);
+    match line {
+        RLine::Com2(byte) => {
+            add(text, b"com2 ");
+            add_byte(text, *byte);
         }
-        BreachKind::Port(port) => {
-            add(text, b"port ");
-            add_word(text, port);
+        RLine::Release(thread) => add_numbered(text, b"release ", *thread),
+        RLine::On(who) => {
+            add(text, b"on ");
+            add_who(text, *who);
         }
-        BreachKind::Fetch(at) => add_address(text, b"fetch ", at),
-        BreachKind::Load(at) => add_address(text, b"load ", at),
-        BreachKind::Store(at) => add_address(text, b"store ", at),
+        RLine::Gate(function, registers, value) => {
+            add(text, b"gate ");
+            add_gate(text, *function, registers, *value);
+        }
+        RLine::Say(said) => {
+            add(text, b"say ");
+            add_bytes(text, said.as_bytes());
+        }
+        RLine::Ret => add(text, b"ret"),
+        RLine::Fault(who, kind) => {
+            add(text, b"fault ");
+            add_fault(text, *who, *kind);
+        }
+        RLine::Reply(value, said) => {
+            add(text, b"reply ");
+            add_reply(text, *value, *said);
+        }
+        RLine::End(live, ready) => {
+            add(text, b"end ");
+            add_two(text, *live, *ready);
+        }
+        RLine::Memory(digest) => {
+            add(text, b"memory ");
+            add_bytes(text, digest);
+        }
     }
 }
 
 fn add_g_words(text: &mut LineText, line: &GLine)
     requires { length text.old ≤ 50 }
     ensures text { text.new ≡ text.old ++ g_words line.now }
-    ensures short { length (g_words line.now) ≤ 110 }
+    ensures short { length (g_words line.now) ≤ 540 }
 {
     match line {
-        GLine::Int(vector) => {
-            add(text, b"int ");
-            add_decimal(text, *vector);
+        GLine::Com1(byte) => {
+            add(text, b"com1 ");
+            add_byte(text, *byte);
         }
+        GLine::Enter(vector) => add_numbered(text, b"enter ", *vector),
+        GLine::Int(vector) => add_numbered(text, b"int ", *vector),
         GLine::Halt => add(text, b"halt"),
-        GLine::Shutdown(vector) => {
-            add(text, b"shutdown ");
-            add_decimal(text, *vector);
+        GLine::Put(fifo, said) => {
+            add(text, b"put ");
+            add_put(text, *fifo, *said);
         }
+        GLine::Get(fifo, count) => {
+            add(text, b"get ");
+            add_two(text, *fifo, *count);
+        }
+        GLine::Shutdown(vector) => add_numbered(text, b"shutdown ", *vector),
         GLine::Breach(kind) => {
             add(text, b"breach ");
             add_breach(text, *kind);
         }
-        GLine::End(mode, words) => {
+        GLine::End(mode, registers) => {
             add(text, b"end ");
             add(text, mode_text(*mode));
-            add_words(text, words);
+            add_words(text, registers);
+        }
+        GLine::Memory(digest) => {
+            add(text, b"memory ");
+            add_bytes(text, digest);
         }
     }
 }
 
-fn add_r_words(text: &mut LineText, line: &RLine)
+fn add_h_words(text: &mut LineText, line: &HLine)
     requires { length text.old ≤ 50 }
-    ensures text { text.new ≡ text.old ++ r_words line.now }
-    ensures short { length (r_words line.now) ≤ 110 }
+    ensures text { text.new ≡ text.old ++ h_words line.now }
+    ensures short { length (h_words line.now) ≤ 540 }
 {
     match line {
-        RLine::On(who) => {
-            add(text, b"on ");
-            add(text, who_word(*who));
-        }
+        HLine::Edge(line) => add_numbered(text, b"edge ", *line),
+        HLine::Ack(line) => add_numbered(text, b"ack ", *line),
+        HLine::Set(count) => add_numbered(text, b"set ", *count),
     }
 }
 
 // A letter and a tick.
 fn line_head(letter: &[u8], tick: u32) -> LineText
     requires { length letter.now ≤ 2 }
-    ensures text { result ≡ letter.now ++ decimal tick ++ (32 ∷ []) }
+    ensures text { result ≡ letter.now ++ (decimal tick ++ (32 ∷ [])) }
     ensures short { length result ≤ 13 }
 {
     let mut text = LineText::new();
@@ -164,28 +175,37 @@ fn line_head(letter: &[u8], tick: u32) -> LineText
 }
 
 // The text of a line by itself.
-fn g_line(tick: u32, line: &GLine) -> LineText
-    ensures text { result ≡ g_text tick line.now }
-    ensures short { length result ≤ 200 }
-{
-    let mut text = line_head(b"G ", tick);
-    add_g_words(&mut text, line);
-    text
-}
-
 fn r_line(tick: u32, line: &RLine) -> LineText
     ensures text { result ≡ r_text tick line.now }
-    ensures short { length result ≤ 200 }
+    ensures short { length result ≤ 600 }
 {
     let mut text = line_head(b"R ", tick);
     add_r_words(&mut text, line);
     text
 }
 
+fn g_line(tick: u32, line: &GLine) -> LineText
+    ensures text { result ≡ g_text tick line.now }
+    ensures short { length result ≤ 600 }
+{
+    let mut text = line_head(b"G ", tick);
+    add_g_words(&mut text, line);
+    text
+}
+
+fn h_line(tick: u32, line: &HLine) -> LineText
+    ensures text { result ≡ h_text tick line.now }
+    ensures short { length result ≤ 600 }
+{
+    let mut text = line_head(b"H ", tick);
+    add_h_words(&mut text, line);
+    text
+}
+
 /// Appends the text of an R line, without its end, where it fits. An empty line always has the room.
 pub fn write_r(tick: u32, line: &RLine, out: &mut LineText) -> bool
     ensures pushes { Pushes out.old out.new (r_text tick line.now) result }
-    ensures short { length (r_text tick line.now) ≤ 200 }
+    ensures short { length (r_text tick line.now) ≤ 600 }
     ensures empty { out.old ≡ [] → IsTrue result }
 {
     out.push_text(r_line(tick, line).as_bytes())
@@ -194,8 +214,17 @@ pub fn write_r(tick: u32, line: &RLine, out: &mut LineText) -> bool
 /// Appends the text of a G line, without its end, where it fits. An empty line always has the room.
 pub fn write_g(tick: u32, line: &GLine, out: &mut LineText) -> bool
     ensures pushes { Pushes out.old out.new (g_text tick line.now) result }
-    ensures short { length (g_text tick line.now) ≤ 200 }
+    ensures short { length (g_text tick line.now) ≤ 600 }
     ensures empty { out.old ≡ [] → IsTrue result }
 {
     out.push_text(g_line(tick, line).as_bytes())
+}
+
+/// Appends the text of an H line, without its end, where it fits. An empty line always has the room.
+pub fn write_h(tick: u32, line: &HLine, out: &mut LineText) -> bool
+    ensures pushes { Pushes out.old out.new (h_text tick line.now) result }
+    ensures short { length (h_text tick line.now) ≤ 600 }
+    ensures empty { out.old ≡ [] → IsTrue result }
+{
+    out.push_text(h_line(tick, line).as_bytes())
 }

@@ -1,7 +1,7 @@
 use Rattle.std.proofs.Common.{arith}
 use Rattle.std.proofs.lemmas.Grind.{common_steps}
 use Rattle.trace_lines.proofs.Digits.{length-doubleword}
-use Rattle.trace_lines.proofs.write.add_doubleword.Goals as goal
+use Rattle.trace_lines.proofs.pieces.add_doubleword.Goals as goal
 
 pub returns-clause-text : goal.returns-clause-text
 returns-clause-text c = let short = length-doubleword c.args.n in grind (arith, common_steps)
