@@ -1,0 +1,32 @@
+-- The guest's calls, read off its lines.
+use Rattle.std.specs.Prelude.{ℕ, List, [], ◌∷◌, Option, Some, None}
+use Rattle.run_lines.specs.Ticks.{at_tick}
+use Rattle.line_kinds.specs.declared.kinds.GLine.{GLine}
+use Rattle.line_kinds.specs.declared.kinds.GLine.TheVariants.{Put, Get}
+
+-- a put of bytes into a FIFO, or a get of at most so many
+pub data Call : Type 0 where
+  PutCall : (fifo : ℕ) (bytes : List ℕ) → Call
+  GetCall : (fifo count : ℕ) → Call
+
+abbrev pub call_in : GLine → Option Call
+call_in (Put fifo bytes) = Some (PutCall fifo bytes)
+call_in (Get fifo count) = Some (GetCall fifo count)
+call_in _ = None
+
+abbrev pub with_call : ℕ → Option Call → List (ℕ × Call) → List (ℕ × Call)
+with_call t None calls = calls
+with_call t (Some call) calls = (t, call) ∷ calls
+
+-- the calls of guest lines, each with its tick
+abbrev pub calls_of : List (ℕ × GLine) → List (ℕ × Call)
+calls_of [] = []
+calls_of (x ∷ xs) = with_call x.0 (call_in x.1) (calls_of xs)
+
+abbrev pub first_of : {A : Type 0} → List A → Option A
+first_of [] = None
+first_of (x ∷ xs) = Some x
+
+-- the call of a tick: the first
+abbrev pub call_at : ℕ → List (ℕ × Call) → Option Call
+call_at t calls = first_of (at_tick t calls)
