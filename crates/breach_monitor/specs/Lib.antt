@@ -1,2 +1,4 @@
-pub mod GuestBus
+pub mod Bus
 pub mod GuestUnit
+pub mod RealTimeUnit
+pub mod Laws

@@ -1,12 +1,16 @@
 // The guest's unit.
-ghost use Rattle.std.specs.Prelude.{◌≡◌, ◌≢◌, ◌≤◌, ℕ};
+ghost use Rattle.std.specs.Prelude.{◌≡◌, ◌≢◌, ◌≤◌, ℕ, length};
 ghost use Rattle.i386_execute.specs.Unit.{unit, address_behind};
-ghost use Rattle.breach_monitor.specs.GuestBus.{no_ports, guest_state};
+ghost use Rattle.port_map.specs.declared.owner.Owner.TheVariants as owner;
+ghost use Rattle.pic_8259.specs.Controllers.{IsPair};
+ghost use Rattle.port_board.specs.Board.{ports_of, IsSampled};
+ghost use Rattle.breach_monitor.specs.Bus.{bus_state};
 ghost use Rattle.breach_monitor.specs.GuestUnit.{answer_to, interrupted};
 
 use crate::GuestBus;
 use cpu_state::{Access, Privileged, Registers};
 use i386_execute::{Stepped, after, step};
+use port_board::Board;
 
 /// What the guest did that it may not do.
 #[derive(Clone, Copy, Debug, PartialEq, Eq)]
@@ -54,12 +58,16 @@ fn interrupted(vector: u8, next: u32) -> GuestUnit
 /// One unit of the guest: the instruction at EIP, or the first breach in the order of the fetch, privileged use, a vector
 /// that no guest may use, a port of another owner, and the first access outside.
 pub fn guest_unit(regs: &mut Registers, bus: &mut GuestBus<'_>) -> GuestUnit
-    ensures same_loan { bus.new.bytes.ghost_name ≡ bus.old.bytes.ghost_name }
-    ensures answer { let st = guest_state bus.old.first bus.old.bytes.now in result ≡ answer_to regs.old.eip (address_behind regs.old st.side) (unit no_ports regs.old st).stepped }
-    ensures registers { regs.new ≡ (unit no_ports regs.old (guest_state bus.old.first bus.old.bytes.now)).registers }
-    ensures state { guest_state bus.new.first bus.new.bytes.now ≡ (unit no_ports regs.old (guest_state bus.old.first bus.old.bytes.now)).bus }
-    ensures unchanged { result ≢ GuestUnit.Next → (regs.new ≡ regs.old) × (bus.new.bytes.now ≡ bus.old.bytes.now) }
+    ensures same_bytes { bus.new.bytes.ghost_name ≡ bus.old.bytes.ghost_name }
+    ensures same_board { bus.new.board.ghost_name ≡ bus.old.board.ghost_name }
+    ensures answer { let st = bus_state bus.old.first bus.old.bytes.now bus.old.board.now in result ≡ answer_to regs.old.eip (address_behind regs.old st.side) (unit (ports_of owner.Guest) regs.old st).stepped }
+    ensures registers { regs.new ≡ (unit (ports_of owner.Guest) regs.old (bus_state bus.old.first bus.old.bytes.now bus.old.board.now)).registers }
+    ensures state { bus_state bus.new.first bus.new.bytes.now bus.new.board.now ≡ (unit (ports_of owner.Guest) regs.old (bus_state bus.old.first bus.old.bytes.now bus.old.board.now)).bus }
+    ensures unchanged { result ≢ GuestUnit.Next → (regs.new ≡ regs.old) × (bus.new.bytes.now ≡ bus.old.bytes.now) × (bus.new.board.now ≡ bus.old.board.now) }
     ensures place { bus.new.first ≡ bus.old.first }
+    ensures size { length bus.new.bytes.now ≡ length bus.old.bytes.now }
+    ensures sampled { IsSampled bus.old.board.now → IsSampled bus.new.board.now }
+    ensures pair { IsPair bus.old.board.now.pair → IsPair bus.new.board.now.pair }
     ensures gate { (number next : ℕ) → result ≡ GuestUnit.Gate number next → (240 ≤ number) × (number ≤ 246) }
 {
     let eip = regs.eip;
@@ -73,14 +81,17 @@ pub fn guest_unit(regs: &mut Registers, bus: &mut GuestBus<'_>) -> GuestUnit
     }
 }
 
-/// One unit of the guest over bytes that are lent, of which the first stands at address 0.
-pub fn guest_unit_on(regs: &mut Registers, memory: &mut [u8]) -> GuestUnit
-    ensures answer { let st = guest_state 0 memory.old in result ≡ answer_to regs.old.eip (address_behind regs.old st.side) (unit no_ports regs.old st).stepped }
-    ensures registers { regs.new ≡ (unit no_ports regs.old (guest_state 0 memory.old)).registers }
-    ensures state { guest_state 0 memory.new ≡ (unit no_ports regs.old (guest_state 0 memory.old)).bus }
-    ensures unchanged { result ≢ GuestUnit.Next → (regs.new ≡ regs.old) × (memory.new ≡ memory.old) }
+/// One unit of the guest over a board and bytes that are lent, of which the first stands at address 0.
+pub fn guest_unit_on(regs: &mut Registers, memory: &mut [u8], board: &mut Board) -> GuestUnit
+    ensures answer { let st = bus_state 0 memory.old board.old in result ≡ answer_to regs.old.eip (address_behind regs.old st.side) (unit (ports_of owner.Guest) regs.old st).stepped }
+    ensures registers { regs.new ≡ (unit (ports_of owner.Guest) regs.old (bus_state 0 memory.old board.old)).registers }
+    ensures state { bus_state 0 memory.new board.new ≡ (unit (ports_of owner.Guest) regs.old (bus_state 0 memory.old board.old)).bus }
+    ensures unchanged { result ≢ GuestUnit.Next → (regs.new ≡ regs.old) × (memory.new ≡ memory.old) × (board.new ≡ board.old) }
+    ensures size { length memory.new ≡ length memory.old }
+    ensures sampled { IsSampled board.old → IsSampled board.new }
+    ensures pair { IsPair board.old.pair → IsPair board.new.pair }
     ensures gate { (number next : ℕ) → result ≡ GuestUnit.Gate number next → (240 ≤ number) × (number ≤ 246) }
 {
-    let mut bus = GuestBus::new(0, memory);
+    let mut bus = GuestBus::new(0, memory, board);
     guest_unit(regs, &mut bus)
 }

@@ -1,8 +1,19 @@
-//! What the guest reaches, and what it may not do: its bus over memory that is lent, and its unit with the first breach.
+//! What the guest and the real-time side reach, and what they may not do: their buses over lent memory and a lent board, and
+//! their units, with the first breach of the guest and the fault of a real-time activity.
 #![tactic(auto)]
 
+mod access;
+mod buses;
 mod guest;
-mod guest_bus;
+mod laws;
+mod real_time;
+#[cfg(test)]
+mod tests;
 
+pub use buses::{GuestBus, RealTimeBus};
 pub use guest::{Breach, GuestUnit, guest_unit, guest_unit_on};
-pub use guest_bus::GuestBus;
+pub use laws::{
+    access_leaves_others, real_time_keeps_others, real_time_of_serial, unit_keeps_others,
+    unit_of_serial,
+};
+pub use real_time::{Fault, RealTimeUnit, real_time_unit, real_time_unit_on};
