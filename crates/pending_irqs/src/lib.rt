@@ -2,7 +2,7 @@
 #![tactic(auto)]
 
 ghost use Rattle.std.specs.Prelude.{◌≡◌, ◌<◌, IfSome};
-ghost use Rattle.line_sets.specs.LineSet.{with_line, without_line};
+ghost use Rattle.line_sets.specs.LineSet.{union, with_line, without_line};
 ghost use Rattle.pending_irqs.specs.Pending.{lowest_enabled};
 
 use line_sets::{lowest32, minus32, with_line32, without_line32};
@@ -38,6 +38,14 @@ impl Pending {
         ensures { self.new ≡ with_line self.old line }
     {
         self.marked = with_line32(self.marked, line);
+    }
+
+    /// Marks each line of a set of lines 0 to 15.
+    #[tactic(auto, unfolding(line_sets::specs::LineSet::union))]
+    pub fn mark_all(&mut self, lines: u16)
+        ensures { self.new ≡ union self.old lines }
+    {
+        self.marked |= u32::from(lines);
     }
 
     /// Clears a line's mark, if it has one.
@@ -77,5 +85,9 @@ mod tests {
         }
         pending.clear(0);
         assert_eq!(rt; pending.lowest(0), Some(4));
+        pending.mark_all(0x8002);
+        assert_eq!(rt; pending.lowest(0x0000_0002), Some(4));
+        assert_eq!(rt; pending.lowest(0x0000_0012), Some(15));
+        assert_eq!(rt; pending.lowest(0), Some(1));
     }
 }

@@ -1,0 +1,4 @@
+pub mod Processor
+pub mod SerialLine
+pub mod Ranges
+pub mod Script
