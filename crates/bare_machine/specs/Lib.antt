@@ -1,4 +1,6 @@
 pub mod State
+pub mod Calls
 pub mod Unit
+pub mod Tick
 pub mod Run
 pub mod Laws

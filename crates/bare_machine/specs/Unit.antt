@@ -1,29 +1,35 @@
--- The guest's unit, and its breaches.
-use Rattle.std.specs.Prelude.{ℕ, false, [], ◌∷◌, if◌then◌else◌}
-use Rattle.memory_model.specs.Side.{Side}
+-- The guest's unit: an entry of an asked line, or one instruction with its traps, interrupts, gates and breaches.
+use Rattle.std.specs.Prelude.{ℕ, ◌+◌, ◌==◌, ◌&&◌, false, [], ◌∷◌, List, if◌then◌else◌, Option, Some, None}
 use Rattle.cpu_state.specs.declared.registers.Access.{Access}
 use Rattle.cpu_state.specs.declared.registers.Access.TheVariants.{Load as Loading, Store as Storing, Fetch as Fetching}
 use Rattle.cpu_state.specs.declared.registers.Privileged.{Privileged as PrivilegedUse}
 use Rattle.cpu_state.specs.declared.registers.Privileged.TheVariants.{Cli as CliUse, Sti as StiUse, Iret as IretUse, Pushf as PushfUse, Popf as PopfUse, Hlt as HltUse}
-use Rattle.cpu_state.specs.declared.registers.Registers.{Registers}
-use Rattle.i386_execute.specs.Unit.{Effect, unit, address_behind}
-use Rattle.breach_monitor.specs.GuestBus.{no_ports}
+use Rattle.i386_execute.specs.Unit.{Effect, address_behind}
 use Rattle.breach_monitor.specs.GuestUnit.{answer_to}
 use Rattle.breach_monitor.specs.declared.guest.Breach.{Breach as BreachOf}
 use Rattle.breach_monitor.specs.declared.guest.Breach.TheVariants.{Privileged, Int as IntOf, Port as PortOf, Outside}
 use Rattle.breach_monitor.specs.declared.guest.GuestUnit.{GuestUnit}
-use Rattle.breach_monitor.specs.declared.guest.GuestUnit.TheVariants.{Next, Enter, Gate, Breach as Breaches}
+use Rattle.breach_monitor.specs.declared.guest.GuestUnit.TheVariants.{Next, Enter as Enters, Gate, Breach as Breaches}
+use Rattle.soft_flags.specs.SoftFlags.{is_open}
 use Rattle.soft_entry.specs.Entry.{Entering, entering}
 use Rattle.soft_entry.specs.declared.entry.Entry.{Entry}
 use Rattle.soft_entry.specs.declared.entry.Entry.TheVariants.{Entered, Shutdown, Outside as OutsideEntry}
 use Rattle.soft_gates.specs.Gate.{Gated, gated}
 use Rattle.soft_gates.specs.declared.gates.GateUnit.{GateUnit}
 use Rattle.soft_gates.specs.declared.gates.GateUnit.TheVariants.{Finished, Halted, Outside as OutsideGate}
-use Rattle.trace_lines.specs.declared.lines.BreachKind.{BreachKind}
-use Rattle.trace_lines.specs.declared.lines.BreachKind.TheVariants.{Cli, Sti, Iret, Pushf, Popf, Hlt, Int, Port, Fetch, Load, Store}
-use Rattle.trace_lines.specs.declared.lines.GLine.TheVariants.{Int as IntLine, Halt, Shutdown as ShutdownLine, Breach}
-use Rattle.trace_lines.specs.declared.lines.Mode.TheVariants.{Stopped, Halted as HaltedMode}
-use Rattle.bare_machine.specs.State.{Bare, Outcome, runs}
+use Rattle.line_kinds.specs.declared.kinds.BreachKind.{BreachKind}
+use Rattle.line_kinds.specs.declared.kinds.BreachKind.TheVariants.{Cli, Sti, Iret, Pushf, Popf, Hlt, Int, Port, Fetch, Load, Store}
+use Rattle.line_kinds.specs.declared.kinds.GLine.{GLine}
+use Rattle.line_kinds.specs.declared.kinds.GLine.TheVariants.{Enter, Int as IntLine, Halt, Shutdown as ShutdownLine}
+use Rattle.line_kinds.specs.declared.kinds.Mode.TheVariants.{Runs, Halted as HaltedMode}
+use Rattle.line_sets.specs.LineSet.{with_line, without_line}
+use Rattle.pending_irqs.specs.Pending.{lowest_enabled}
+use Rattle.port_map.specs.Serial.{Serial, rose}
+use Rattle.port_map.specs.declared.owner.Owner.TheVariants.{Guest}
+use Rattle.machine_parts.specs.Processor.{unit_at, eax}
+use Rattle.run_lines.specs.Says.{Answer}
+use Rattle.bare_machine.specs.State.{Bare, UnitOutcome, Done, Calls, is_stopped, is_halted}
+use Rattle.bare_machine.specs.Calls.{breached, stopped, onward, is_served, served_by, replied, call_line}
 
 abbrev pub use_kind : PrivilegedUse → BreachKind
 use_kind CliUse = Cli
@@ -45,55 +51,75 @@ breach_kind (IntOf vector) = Int vector
 breach_kind (PortOf port) = Port port
 breach_kind (Outside access at) = access_kind access at
 
--- the state stays, with no line
-abbrev pub still : Bare → Outcome
-still b = record { after = b; lines = [] }
+-- an entry, with its line: where the vector has no present descriptor, the guest is stopped; where the frame lies outside, that is a
+-- breach. `before` is the state that these leave
+abbrev pub enters : GLine → ℕ → Bare → Bare → Entering → Entry → UnitOutcome
+enters line vector before b e Entered =
+    Done (record b { registers = e.registers; side = e.side; soft = e.flags; mode = Runs }) (line ∷ [])
+enters line vector before b e Shutdown = Done (stopped before) (ShutdownLine vector ∷ [])
+enters line vector before b e (OutsideEntry at) = breached (Store at) before
 
-abbrev pub stopped : Bare → Bare
-stopped b = record b { mode = Stopped }
-
--- a breach prints its line and stops the guest for good
-abbrev pub breached : BreachKind → Bare → Outcome
-breached kind b = record { after = stopped b; lines = Breach kind ∷ [] }
-
--- an entry: where the vector has no present descriptor, the guest is stopped; where the frame lies outside, that is a breach
-abbrev pub enters : ℕ → Bare → Entering → Entry → Outcome
-enters vector b e Entered = record { after = record b { registers = e.registers; side = e.side; soft = e.flags }; lines = IntLine vector ∷ [] }
-enters vector b e Shutdown = record { after = stopped b; lines = ShutdownLine vector ∷ [] }
-enters vector b e (OutsideEntry at) = breached (Store at) b
+-- an asked line n is entered at EIP, and is asked no more
+abbrev pub asked_entry : ℕ → Bare → UnitOutcome
+asked_entry n b =
+    let e = entering (32 + n) b.registers.eip b.registers b.soft b.side in
+    enters (Enter (32 + n)) (32 + n) b (record b { asked = without_line b.asked n }) e e.entry
 
 -- a trap pushes EIP, an interrupt the next EIP
-abbrev pub int_entry : ℕ → ℕ → Bare → Outcome
-int_entry vector push b = let e = entering vector push b.registers b.soft b.side in enters vector b e e.entry
+abbrev pub int_entry : ℕ → ℕ → Bare → UnitOutcome
+int_entry vector push b = let e = entering vector push b.registers b.soft b.side in enters (IntLine vector) vector b b e e.entry
 
 -- a gate: an access outside is a breach
-abbrev pub gates : Bare → Gated → GateUnit → Outcome
-gates b g Finished = still (record b { registers = g.registers; side = g.side; soft = g.flags })
-gates b g Halted = record { after = record b { registers = g.registers; side = g.side; soft = g.flags; mode = HaltedMode }; lines = Halt ∷ [] }
+abbrev pub gates : Bare → Gated → GateUnit → UnitOutcome
+gates b g Finished = Done (record b { registers = g.registers; side = g.side; soft = g.flags }) []
+gates b g Halted = Done (record b { registers = g.registers; side = g.side; soft = g.flags; mode = HaltedMode }) (Halt ∷ [])
 gates b g (OutsideGate access at) = breached (access_kind access at) b
 
-abbrev pub gate : ℕ → ℕ → ℕ → Bare → Outcome
-gate t number next b = let g = gated number next t b.registers b.soft b.side in gates b g g.came
+abbrev pub own_gate : ℕ → ℕ → ℕ → Bare → UnitOutcome
+own_gate t number next b = let g = gated number next t b.registers b.soft b.side in gates b g g.came
 
--- the processor's unit over the guest's side
-abbrev pub unit_at : Registers → Side → Effect (Unit {0})
-unit_at registers side = unit no_ports registers (record { side = side; devices = tt })
+abbrev pub gate : ℕ → ℕ → ℕ → Bare → UnitOutcome
+gate t number next b =
+    if number == 246 && is_served b.services (eax b.registers) then served_by t (eax b.registers) b (onward next b)
+    else own_gate t number next b
+
+-- COM1 after a unit or a device step; where its line rose, line 4 is asked
+abbrev pub with_com1 : Serial → Bare → Bare
+with_com1 port b = record b { com1 = port; asked = if rose b.com1 port then with_line b.asked 4 else b.asked }
 
 -- an instruction that was performed, with which a shadow ends
-abbrev pub performed : Effect (Unit {0}) → Bare → Bare
-performed e b = record b { registers = e.registers; side = e.bus.side; soft = record b.soft { shadow = false } }
+abbrev pub performed : Effect Serial → Bare → Bare
+performed e b = with_com1 e.bus.devices (record b { registers = e.registers; side = e.bus.side; soft = record b.soft { shadow = false } })
 
-abbrev pub came_to : ℕ → Effect (Unit {0}) → Bare → GuestUnit → Outcome
-came_to t e b Next = still (performed e b)
-came_to t e b (Enter vector push) = int_entry vector push b
+abbrev pub came_to : ℕ → Effect Serial → Bare → GuestUnit → UnitOutcome
+came_to t e b Next = Done (performed e b) []
+came_to t e b (Enters vector push) = int_entry vector push b
 came_to t e b (Gate number next) = gate t number next b
 came_to t e b (Breaches breach) = breached (breach_kind breach) b
 
-abbrev pub instruction : ℕ → Bare → Outcome
+abbrev pub instruction : ℕ → Bare → UnitOutcome
 instruction t b =
-    let e = unit_at b.registers b.side in
+    let e = unit_at Guest b.registers b.side b.com1 in
     came_to t e b (answer_to b.registers.eip (address_behind b.registers b.side) e.stepped)
 
--- the unit of tick t. Where the guest is halted or stopped, nothing happens
-unfoldable pub guest_unit : ℕ → Bare → Outcome
-guest_unit t b = if runs b.mode then instruction t b else still b
+-- the lowest line that is asked and enabled, where it may be entered: the flag is set, and no shadow stands
+abbrev pub line_to_enter : Bare → Option ℕ
+line_to_enter b = if is_open b.soft then lowest_enabled b.asked b.soft.mask else None
+
+-- what applies first: stopped; an entry of an asked line; halted; an instruction
+abbrev pub unless_entered : ℕ → Bare → Option ℕ → UnitOutcome
+unless_entered t b (Some n) = asked_entry n b
+unless_entered t b None = if is_halted b.mode then Done b [] else instruction t b
+
+-- the unit of tick t
+unfoldable pub guest_unit : ℕ → Bare → UnitOutcome
+guest_unit t b = if is_stopped b.mode then Done b [] else unless_entered t b (line_to_enter b)
+
+-- its lines, and what it leaves once a call is answered
+abbrev pub unit_lines : UnitOutcome → List GLine
+unit_lines (Done after lines) = lines
+unit_lines (Calls call place after) = call_line call ∷ []
+
+abbrev pub unit_after : Answer → UnitOutcome → Bare
+unit_after answer (Done after lines) = after
+unit_after answer (Calls call place after) = replied call place answer after

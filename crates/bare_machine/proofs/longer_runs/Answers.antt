@@ -3,4 +3,4 @@ use Rattle.run_lines.proofs.Longer.{longer}
 use Rattle.bare_machine.proofs.longer_runs.Goals as goal
 
 pub returns : goal.returns
-returns c = λ b r n m. longer (bare_lines b r) n m
+returns c = λ start script r n m. longer (bare_lines start script r) n m
