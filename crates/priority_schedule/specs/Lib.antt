@@ -1,0 +1,13 @@
+pub mod Errors
+pub mod Due
+pub mod Fifos
+pub mod State
+pub mod Release
+pub mod Pick
+pub mod Gates
+pub mod Unit
+pub mod Tick
+pub mod Run
+pub mod Priority
+pub mod Laws
+pub mod Worked
