@@ -1,0 +1,30 @@
+use Rattle.std.proofs.Common.{refl}
+use Rattle.line_sets.specs.LineSet.{with_line, without_line}
+use Rattle.bare_machine.specs.State.{first_state as first_bare}
+use Rattle.priority_schedule.specs.Release.{nearest}
+use Rattle.priority_schedule.specs.State.{first_state as first_real}
+use Rattle.hardware_lines.specs.Worked.{timed}
+use Rattle.hardware_lines.proofs.worked.Goals as goal
+
+pub returns-clause-shots : goal.returns-clause-shots
+returns-clause-shots c = record { near = refl; past = refl; far = refl; chain = refl; none = refl }
+
+pub returns-clause-guest_dues : goal.returns-clause-guest_dues
+unfolding timed first_bare first_real nearest
+returns-clause-guest_dues c = record { first = refl; between = refl; next = refl; off = refl }
+
+pub returns-clause-edges : goal.returns-clause-edges
+unfolding with_line
+returns-clause-edges c = record { edges = refl; latch = refl; acks = refl; emptied = refl; closed = refl }
+
+pub returns-clause-served : goal.returns-clause-served
+unfolding timed first_bare first_real nearest
+returns-clause-served c = refl
+
+pub returns-clause-taken : goal.returns-clause-taken
+unfolding without_line
+returns-clause-taken c = record { stood = refl; fell = refl }
+
+pub returns-clause-timers : goal.returns-clause-timers
+unfolding timed first_bare first_real nearest
+returns-clause-timers c = record { changed = refl; same = refl; gone = refl }

@@ -1,0 +1,200 @@
+-- The hardware of a tick, in four steps, and of a run. A rise is latched until it is acknowledged (8259A data sheet, "Interrupt
+-- Request Register"); the one-shot is the 8254's counter 0 in mode 0, which rises with the pulse after so many as its count has (8254
+-- data sheet, "Mode 0"). When the executive acknowledges and when it sets the one-shot is this project's own.
+use Rattle.std.specs.Prelude.{ℕ, suc, zero, ◌+◌, ◌-◌, ◌*◌, ◌/◌, ◌==◌, min, max, Bool, true, false, not, List, [], ◌∷◌, ◌++◌, map, filter, fold, if◌then◌else◌, Option, Some, None, option_map}
+use Rattle.std.specs.List.{range_with_len}
+use Rattle.line_sets.specs.LineSet.{has, with_line, without_line}
+use Rattle.pic_8259.specs.Boot.{acknowledge_order}
+use Rattle.rt_irqs.specs.Irqs.{is_held, handler_order}
+use Rattle.device_script.specs.declared.event.Event.{Event}
+use Rattle.port_map.specs.Serial.{rose}
+use Rattle.line_kinds.specs.declared.kinds.HLine.{HLine}
+use Rattle.line_kinds.specs.declared.kinds.HLine.TheVariants.{Edge, Ack, Set}
+use Rattle.line_kinds.specs.declared.kinds.RLine.{RLine}
+use Rattle.machine_parts.specs.Script.{lines_of}
+use Rattle.run_lines.specs.Calls.{Call}
+use Rattle.run_lines.specs.Ticks.{at_tick, lines_to}
+use Rattle.bare_machine.specs.State.{Bare, GuestStart}
+use Rattle.bare_machine.specs.Run.{bare_after}
+use Rattle.bare_machine.specs.Tick.{after_devices as bare_devices}
+use Rattle.priority_schedule.specs.Release.{Due, nearest, drains}
+use Rattle.priority_schedule.specs.Run.{real_after}
+use Rattle.priority_schedule.specs.State.{RealTime, RealTimeStart}
+use Rattle.priority_schedule.specs.Tick.{opened, after_devices as real_devices}
+
+-- the set of latched lines; the tick in which the one-shot rises, if it does; and the last tick in which line 0 was acknowledged, or 0
+pub record Hardware : Type 0 where
+  pub latch : ℕ
+  pub rise : Option ℕ
+  pub last : ℕ
+
+abbrev pub first_hardware : Hardware
+first_hardware = record { latch = 0; rise = None; last = 0 }
+
+-- the hardware and its lines of a tick so far
+pub record Marking : Type 0 where
+  pub hardware : Hardware
+  pub lines : List HLine
+
+-- both machines at one moment
+pub record Machines : Type 0 where
+  pub bare : Bare
+  pub real : RealTime
+
+-- Edges: each has its line, once, by rising number, and is latched
+
+abbrev pub rising_order : List ℕ
+rising_order = range_with_len 0 16
+
+abbrev pub latched : ℕ → List ℕ → ℕ
+latched lines edges = fold with_line lines edges
+
+abbrev pub with_edges : ℕ → Marking → Marking
+with_edges edges s = record {
+  hardware = record s.hardware { latch = latched s.hardware.latch (filter (has edges) rising_order) };
+  lines = s.lines ++ map Edge (filter (has edges) rising_order);
+}
+
+-- the lines of the serial ports that rose from one moment to another: 4 is COM1's and 3 COM2's
+abbrev pub with_if : Bool → ℕ → ℕ → ℕ
+with_if rises line edges = if rises then with_line edges line else edges
+
+abbrev pub ports_rose : Machines → Machines → ℕ → ℕ
+ports_rose before after edges = with_if (rose before.bare.com1 after.bare.com1) 4 (with_if (rose before.real.com2 after.real.com2) 3 edges)
+
+-- Dues
+
+abbrev pub earlier_due : Option ℕ → Option ℕ → Option ℕ
+earlier_due None b = b
+earlier_due (Some a) None = Some a
+earlier_due (Some a) (Some b) = Some (min a b)
+
+-- the guest's timer: the first start + k * period, with k from 1, above the last acknowledgement
+abbrev pub guest_due : ℕ → Bare → Option ℕ
+guest_due last b =
+    if b.timer_period == 0 then None
+    else Some (b.timer_start + ((last - b.timer_start) / b.timer_period + 1) * b.timer_period)
+
+-- the time of a thread's due
+abbrev pub time_of : Option Due → Option ℕ
+time_of d = option_map (λ (x : Due). x.due) d
+
+-- the nearest due of the waiting threads and of the guest's timer
+abbrev pub nearest_due : ℕ → Machines → Option ℕ
+nearest_due last m = earlier_due (time_of (nearest m.real.threads)) (guest_due last m.bare)
+
+-- the one-shot is set in tick t for a due: it rises k ticks on, of 1 to 32,768, and its count is 2k - 1, since a tick has two pulses and
+-- it rises with the one after its count
+abbrev pub ticks_until : ℕ → ℕ → ℕ
+ticks_until t due = max 1 (min (due - t) 32768)
+
+abbrev pub with_set : ℕ → Option ℕ → Marking → Marking
+with_set t None s = s
+with_set t (Some due) s = record {
+  hardware = record s.hardware { rise = Some (t + ticks_until t due) };
+  lines = s.lines ++ Set (2 * ticks_until t due - 1) ∷ [];
+}
+
+-- 1. The edges of the device step: the script's lines, those of the serial ports that rose, and line 0 where the one-shot rises, which
+-- then doesn't rise again
+
+abbrev pub rises_at : ℕ → Option ℕ → Bool
+rises_at t None = false
+rises_at t (Some rise) = rise == t
+
+abbrev pub without_rise : ℕ → Hardware → Hardware
+without_rise t h = record h { rise = if rises_at t h.rise then None else h.rise }
+
+abbrev pub device_edges : ℕ → List Event → Machines → Machines → Hardware → ℕ
+device_edges t events before after h = with_if (rises_at t h.rise) 0 (ports_rose before after (latched 0 (lines_of events)))
+
+abbrev pub device_step : ℕ → List Event → Machines → Machines → Marking → Marking
+device_step t events before after s =
+    with_edges (device_edges t events before after s.hardware) (record s { hardware = without_rise t s.hardware })
+
+-- 2. The drain: the latched lines are acknowledged in the order of the controllers, and none is latched any more. Where line 0 was
+-- among them, the one-shot is set for the nearest due after the releases, if there is one
+
+abbrev pub acknowledged : ℕ → Machines → Marking → Marking
+acknowledged t released s =
+    if has s.hardware.latch 0
+    then with_set t (nearest_due t released) (record s { hardware = record s.hardware { latch = 0; last = t } })
+    else record s { hardware = record s.hardware { latch = 0 } }
+
+abbrev pub drain_step : ℕ → Bool → Machines → Marking → Marking
+drain_step t draining released s =
+    if draining then acknowledged t released (record s { lines = s.lines ++ map Ack (filter (has s.hardware.latch) acknowledge_order) })
+    else s
+
+-- 3. The unit: its edges, and then the latched line whose owner it changed is acknowledged. A unit changes the owner of one line at
+-- most: that of its gate 18 or 19, or of the handler that faults
+
+abbrev pub differ : Bool → Bool → Bool
+differ a b = if a then not b else b
+
+abbrev pub changes_owner : Machines → Machines → ℕ → Bool
+changes_owner before after line = differ (is_held before.real.irqs line) (is_held after.real.irqs line)
+
+abbrev pub taken : List ℕ → Marking → Marking
+taken [] s = s
+taken (line ∷ lines) s =
+    if has s.hardware.latch line
+    then record { hardware = record s.hardware { latch = without_line s.hardware.latch line }; lines = s.lines ++ Ack line ∷ [] }
+    else s
+
+abbrev pub unit_step : Machines → Machines → Marking → Marking
+unit_step before after s =
+    taken (filter (changes_owner before after) handler_order) (with_edges (ports_rose before after 0) s)
+
+-- 4. The timer: the one-shot is set where the unit changed the nearest due and there is one
+
+abbrev pub same_due : Option ℕ → Option ℕ → Bool
+same_due None None = true
+same_due None (Some b) = false
+same_due (Some a) None = false
+same_due (Some a) (Some b) = a == b
+
+abbrev pub timer_step : ℕ → Machines → Machines → Marking → Marking
+timer_step t before after s =
+    if same_due (nearest_due s.hardware.last before) (nearest_due s.hardware.last after) then s
+    else with_set t (nearest_due s.hardware.last after) s
+
+-- a tick, from both machines before it, after the device step, after the pick, and after it
+abbrev pub hardware_tick : ℕ → List Event → Machines → Machines → Machines → Machines → Hardware → Marking
+hardware_tick t events before stepped chosen after h =
+    timer_step t chosen after (unit_step chosen after (
+    drain_step t (drains before.real) chosen (device_step t events before stepped (record { hardware = h; lines = [] }))))
+
+-- both machines after the device step, and after the pick
+abbrev pub devices_of : List Event → Machines → Machines
+devices_of events m = record { bare = bare_devices events m.bare; real = real_devices events m.real }
+
+abbrev pub chosen_of : ℕ → List Event → Machines → Machines
+chosen_of t events m = record { bare = bare_devices events m.bare; real = (opened t events m.real).real }
+
+-- a tick, from both machines before it and after it
+abbrev pub marking : ℕ → List Event → Machines → Machines → Hardware → Marking
+marking t events before after h = hardware_tick t events before (devices_of events before) (chosen_of t events before) after h
+
+-- A run
+
+-- both machines after n ticks
+unfoldable pub machines_after : GuestStart → RealTimeStart → List (ℕ × Event) → List (ℕ × RLine) → List (ℕ × Call) → ℕ → Machines
+machines_after guest start script r calls n =
+    record { bare = bare_after guest script r n; real = real_after start script calls n }
+
+unfoldable pub hardware_after : GuestStart → RealTimeStart → List (ℕ × Event) → List (ℕ × RLine) → List (ℕ × Call) → ℕ → Hardware
+hardware_after guest start script r calls zero = first_hardware
+hardware_after guest start script r calls (suc n) =
+    (marking (suc n) (at_tick (suc n) script) (machines_after guest start script r calls n) (machines_after guest start script r calls (suc n))
+    (hardware_after guest start script r calls n)).hardware
+
+-- the lines of the tick after n ticks
+unfoldable pub hardware_lines : GuestStart → RealTimeStart → List (ℕ × Event) → List (ℕ × RLine) → List (ℕ × Call) → ℕ → List HLine
+hardware_lines guest start script r calls n =
+    (marking (suc n) (at_tick (suc n) script) (machines_after guest start script r calls n) (machines_after guest start script r calls (suc n))
+    (hardware_after guest start script r calls n)).lines
+
+-- the lines of ticks 1 to n. There are no end lines
+abbrev pub hardware : GuestStart → RealTimeStart → List (ℕ × Event) → ℕ → List (ℕ × RLine) → List (ℕ × Call) → List (ℕ × HLine)
+hardware guest start script n r calls = lines_to (hardware_lines guest start script r calls) n
