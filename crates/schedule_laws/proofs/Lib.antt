@@ -1,0 +1,14 @@
+mod TickLemmas
+mod UnitCases
+mod Sights
+mod Solutions
+mod LongerLemmas
+mod Reading
+mod RowReads
+mod PickFirst
+mod TickReads
+mod PriorityLaw
+mod HeldReads
+mod Calm
+mod Served
+mod Drains

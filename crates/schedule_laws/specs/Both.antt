@@ -1,0 +1,81 @@
+-- Both machines side by side, a tick at a time: the pick of a tick needs no call, the call needs the pick, the reply needs the call.
+use Rattle.std.specs.Prelude.{ℕ, suc, zero, List, ◌++◌, fold, filter_map, Option, None}
+use Rattle.device_script.specs.declared.event.Event.{Event}
+use Rattle.line_kinds.specs.declared.kinds.GLine.{GLine}
+use Rattle.line_kinds.specs.declared.kinds.RLine.{RLine}
+use Rattle.line_kinds.specs.declared.kinds.Who.{Who}
+use Rattle.machine_parts.specs.SerialLine.{byte_sent}
+use Rattle.run_lines.specs.Calls.{Call, call_in, first_of}
+use Rattle.run_lines.specs.Says.{Sight, is_guest, held_by, after_owner, sight_from}
+use Rattle.run_lines.specs.Ticks.{at_tick, stamped, lines_to}
+use Rattle.bare_machine.specs.State.{Bare, GuestStart, UnitOutcome, first_state as first_bare}
+use Rattle.bare_machine.specs.Run.{bare_end}
+use Rattle.bare_machine.specs.Tick.{bare_tick, com1_lines, guest_begins}
+use Rattle.bare_machine.specs.Unit.{unit_lines}
+use Rattle.priority_schedule.specs.Release.{Ticking}
+use Rattle.priority_schedule.specs.Run.{real_end}
+use Rattle.priority_schedule.specs.State.{RealTime, RealTimeStart, first_state as first_real}
+use Rattle.priority_schedule.specs.Tick.{opened, acted}
+
+-- both states, with the holder and the lines that modules hold by the real-time lines so far
+pub record Both : Type 0 where
+  pub bare : Bare
+  pub real : RealTime
+  pub who : Option Who
+  pub lines_held : ℕ
+
+abbrev pub first_both : GuestStart → RealTimeStart → Both
+first_both guest start = record { bare = first_bare guest; real = first_real start; who = None; lines_held = 0 }
+
+-- the real-time side up to its pick
+abbrev pub both_opened : ℕ → List Event → Both → Ticking
+both_opened t events b = opened t events b.real
+
+-- the guest's unit, where the pick is the guest
+abbrev pub both_unit : ℕ → List Event → Both → UnitOutcome
+both_unit t events b = guest_begins t events (is_guest (fold held_by b.who (both_opened t events b).lines)) b.lines_held b.bare
+
+unfoldable pub guest_lines : ℕ → List Event → Both → List GLine
+guest_lines t events b = com1_lines (byte_sent b.bare.com1) ++ unit_lines (both_unit t events b)
+
+-- its call
+abbrev pub call_among : List GLine → Option Call
+call_among lines = first_of (filter_map call_in lines)
+
+abbrev pub both_call : ℕ → List Event → Both → Option Call
+both_call t events b = call_among (guest_lines t events b)
+
+-- the real-time side after its unit
+unfoldable pub both_real : ℕ → List Event → Both → Ticking
+both_real t events b = acted t (both_call t events b) (both_opened t events b)
+
+-- what the tick's real-time lines say to the guest
+abbrev pub both_sight : ℕ → List Event → Both → Sight
+both_sight t events b = sight_from b.who b.lines_held (both_real t events b).lines
+
+abbrev pub both_tick : ℕ → List Event → Both → Both
+both_tick t events b = record {
+  bare = bare_tick t events (both_sight t events b) b.bare;
+  real = (both_real t events b).real;
+  who = fold held_by b.who (both_real t events b).lines;
+  lines_held = fold after_owner b.lines_held (both_real t events b).lines;
+}
+
+-- after n ticks
+unfoldable pub both_after : GuestStart → RealTimeStart → List (ℕ × Event) → ℕ → Both
+both_after guest start script zero = first_both guest start
+both_after guest start script (suc n) = both_tick (suc n) (at_tick (suc n) script) (both_after guest start script n)
+
+-- the lines of the tick after n ticks
+unfoldable pub both_g : GuestStart → RealTimeStart → List (ℕ × Event) → ℕ → List GLine
+both_g guest start script n = guest_lines (suc n) (at_tick (suc n) script) (both_after guest start script n)
+
+unfoldable pub both_r : GuestStart → RealTimeStart → List (ℕ × Event) → ℕ → List RLine
+both_r guest start script n = (both_real (suc n) (at_tick (suc n) script) (both_after guest start script n)).lines
+
+-- the lines of n ticks with their end lines
+unfoldable pub all_g : GuestStart → RealTimeStart → List (ℕ × Event) → ℕ → List (ℕ × GLine)
+all_g guest start script n = lines_to (both_g guest start script) n ++ stamped n (bare_end (both_after guest start script n).bare)
+
+unfoldable pub all_r : GuestStart → RealTimeStart → List (ℕ × Event) → ℕ → List (ℕ × RLine)
+all_r guest start script n = lines_to (both_r guest start script) n ++ stamped n (real_end (both_after guest start script n).real)

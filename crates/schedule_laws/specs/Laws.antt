@@ -1,0 +1,152 @@
+-- Laws of the runs of both machines. A run is of a guest start with its services, a real-time start, a script and so many ticks.
+use Rattle.std.specs.Prelude.{◌≡◌, ℕ, suc, ◌+◌, ◌<◌, ◌≤◌, Bool, true, false, List, [], Option, Some, IfSome}
+use Rattle.line_sets.specs.LineSet.{has}
+use Rattle.rt_irqs.specs.Irqs.{is_held}
+use Rattle.device_script.specs.declared.event.Event.{Event}
+use Rattle.line_kinds.specs.declared.kinds.GLine.{GLine}
+use Rattle.line_kinds.specs.declared.kinds.RLine.{RLine}
+use Rattle.line_kinds.specs.declared.kinds.Who.{Who}
+use Rattle.line_kinds.specs.declared.kinds.Who.TheVariants.{Guest, Thread}
+use Rattle.run_lines.specs.Calls.{Call, calls_of}
+use Rattle.run_lines.specs.Says.{holder, held, pended, reply_in}
+use Rattle.run_lines.specs.Ticks.{at_tick, IsPrefixOf}
+use Rattle.bare_machine.specs.Run.{bare, bare_run}
+use Rattle.bare_machine.specs.State.{GuestStart}
+use Rattle.priority_schedule.specs.Priority.{KeepsPriority}
+use Rattle.priority_schedule.specs.Release.{drained, drains, due_at}
+use Rattle.priority_schedule.specs.Run.{real_time, real_run, real_after}
+use Rattle.priority_schedule.specs.State.{RealTime, RealTimeStart, is_ready}
+use Rattle.priority_schedule.specs.Tick.{begun, devices, opened, real_time_tick}
+use Rattle.priority_schedule.specs.Unit.{unit_of}
+use Rattle.hardware_lines.specs.Hardware.{Hardware, Machines, devices_of, device_step, guest_due, hardware, hardware_after, machines_after, marking}
+use Rattle.hardware_lines.specs.Timely.{IsTimely}
+use Rattle.run_output.specs.Output.{run_lines}
+
+-- One solution. Guest lines and real-time lines that meet both equations: the guest's are those of the bare machine beside the
+-- real-time lines, and these are those of the schedule beside the guest's calls
+
+pub record IsSolution (guest : GuestStart) (start : RealTimeStart) (script : List (ℕ × Event)) (n : ℕ) (g : List (ℕ × GLine)) (r : List (ℕ × RLine)) : Type 0 where
+  pub guest_half : g ≡ bare guest script n r
+  pub real_half : r ≡ real_time start script n (calls_of g)
+
+-- there is one, and no other
+abbrev pub OneSolution : Type 0
+OneSolution =
+    (guest : GuestStart) (start : RealTimeStart) (script : List (ℕ × Event)) (n : ℕ)
+    → (g : List (ℕ × GLine)) × ((r : List (ℕ × RLine)) × (IsSolution guest start script n g r
+    × ((g' : List (ℕ × GLine)) (r' : List (ℕ × RLine)) → IsSolution guest start script n g' r' → (g' ≡ g) × (r' ≡ r))))
+
+-- Longer runs. The lines of n ticks without end lines are the first of those of n + m ticks: of each machine beside the same lines of
+-- the other
+
+abbrev pub LongerReal : Type 0
+LongerReal =
+    (start : RealTimeStart) (script : List (ℕ × Event)) (calls : List (ℕ × Call)) (n m : ℕ)
+    → IsPrefixOf (real_run start script calls n) (real_run start script calls (n + m))
+
+abbrev pub LongerBare : Type 0
+LongerBare =
+    (start : GuestStart) (script : List (ℕ × Event)) (r : List (ℕ × RLine)) (n m : ℕ)
+    → IsPrefixOf (bare_run start script r n) (bare_run start script r (n + m))
+
+-- and of the solutions of n and of n + m ticks: the real-time lines, the guest's, the hardware's, and all in one order
+
+pub record GoesOn (guest : GuestStart) (start : RealTimeStart) (script : List (ℕ × Event)) (n m : ℕ) (g g' : List (ℕ × GLine)) (r r' : List (ℕ × RLine)) : Type 0 where
+  pub of_real : IsPrefixOf (real_run start script (calls_of g) n) (real_run start script (calls_of g') (n + m))
+  pub of_guest : IsPrefixOf (bare_run guest script r n) (bare_run guest script r' (n + m))
+  pub of_hardware : IsPrefixOf (hardware guest start script n r (calls_of g)) (hardware guest start script (n + m) r' (calls_of g'))
+  pub of_all : (hardware_too : Bool) → IsPrefixOf (run_lines hardware_too guest start script r (calls_of g) n) (run_lines hardware_too guest start script r' (calls_of g') (n + m))
+
+abbrev pub LongerRuns : Type 0
+LongerRuns =
+    (guest : GuestStart) (start : RealTimeStart) (script : List (ℕ × Event)) (n m : ℕ) (g g' : List (ℕ × GLine)) (r r' : List (ℕ × RLine))
+    → IsSolution guest start script n g r → IsSolution guest start script (n + m) g' r' → GoesOn guest start script n m g g' r r'
+
+-- Two guests that make equal calls have equal real-time lines
+
+abbrev pub TwoGuests : Type 0
+TwoGuests =
+    (guest guest' : GuestStart) (start : RealTimeStart) (script : List (ℕ × Event)) (n : ℕ)
+    (g g' : List (ℕ × GLine)) (r r' : List (ℕ × RLine))
+    → IsSolution guest start script n g r → IsSolution guest' start script n g' r' → calls_of g ≡ calls_of g' → r ≡ r'
+
+-- Priority. The real-time lines of every run keep the law, beside any calls
+
+abbrev pub Priority : Type 0
+Priority =
+    (start : RealTimeStart) (script : List (ℕ × Event)) (n : ℕ) (calls : List (ℕ × Call))
+    → KeepsPriority n (real_time start script n calls)
+
+-- What the lines say is what the state holds: what is on is the holder, and the lines that modules hold are those that the lines say
+
+abbrev pub LinesSay : Type 0
+LinesSay =
+    (start : RealTimeStart) (script : List (ℕ × Event)) (n : ℕ) (calls : List (ℕ × Call)) (k : ℕ) → k ≤ n
+    → ((w : Who) → (real_after start script calls k).on ≡ Some w → holder k (real_time start script n calls) ≡ Some w)
+    × ((line : ℕ) → has (held k (real_time start script n calls)) line ≡ is_held (real_after start script calls k).irqs line)
+
+-- What the guest sees of a tick beside who is on is the unit: the lines before it have no mark and no reply
+
+abbrev pub UnitsShow : Type 0
+UnitsShow =
+    (t : ℕ) (events : List Event) (call : Option Call) (m : RealTime)
+    → (pended (real_time_tick t events call m).lines ≡ pended (unit_of t call (opened t events m).real (opened t events m).real.on).lines)
+    × (reply_in (real_time_tick t events call m).lines ≡ reply_in (unit_of t call (opened t events m).real (opened t events m).real.on).lines)
+
+-- Dues, a tick at a time, from any hardware and machines between ticks k and k + 1. The device step keeps that the one-shot serves the
+-- nearest due, by this tick; where line 0 isn't latched then, every due is above it. The whole tick keeps it by the next one
+
+-- every due is above a tick
+pub record IsCalm (t : ℕ) (h : Hardware) (m : Machines) : Type 0 where
+  pub of_threads : (i : ℕ) → IfSome (due_at m.real.threads i) (λ due. t < due)
+  pub of_guest : IfSome (guest_due h.last m.bare) (λ due. t < due)
+
+-- the hardware after a device step
+abbrev pub stepped_from : ℕ → List Event → Machines → Hardware → Hardware
+stepped_from t events m h = (device_step t events m (devices_of events m) (record { hardware = h; lines = [] })).hardware
+
+pub record StepTimely (k : ℕ) (events : List Event) (before after : Machines) (h : Hardware) : Type 0 where
+  pub devices : IsTimely (suc k) (suc k) (stepped_from (suc k) events before h) before
+  pub calm : has (stepped_from (suc k) events before h).latch 0 ≡ false → IsCalm (suc k) (stepped_from (suc k) events before h) before
+  pub tick : IsTimely (suc k) (suc (suc k)) (marking (suc k) events before after h).hardware after
+
+abbrev pub TickTimely : Type 0
+TickTimely =
+    (k : ℕ) (events : List Event) (before after : Machines) (h : Hardware) → IsTimely k (suc k) h before → StepTimely k events before after h
+
+-- Dues. After each tick the one-shot rises, if it does, above that tick, and it serves the nearest due, the guest's included: line 0 is
+-- latched, or it rises at most at the greater of the due and the next tick
+
+abbrev pub AlwaysTimely : Type 0
+AlwaysTimely =
+    (guest : GuestStart) (start : RealTimeStart) (script : List (ℕ × Event)) (r : List (ℕ × RLine)) (calls : List (ℕ × Call)) (k : ℕ)
+    → IsTimely k (suc k) (hardware_after guest start script r calls k) (machines_after guest start script r calls k)
+
+-- the hardware after the device step of the tick after k ticks
+abbrev pub stepped_after : GuestStart → RealTimeStart → List (ℕ × Event) → List (ℕ × RLine) → List (ℕ × Call) → ℕ → Hardware
+stepped_after guest start script r calls k =
+    stepped_from (suc k) (at_tick (suc k) script) (machines_after guest start script r calls k) (hardware_after guest start script r calls k)
+
+-- where line 0 isn't latched after the device step of a tick, every due is above it. So the releases of the tick are none, whether or
+-- not it drains
+pub record NothingDue (guest : GuestStart) (start : RealTimeStart) (script : List (ℕ × Event)) (r : List (ℕ × RLine)) (calls : List (ℕ × Call)) (k : ℕ) : Type 0 where
+  pub calm : IsCalm (suc k) (stepped_after guest start script r calls k) (machines_after guest start script r calls k)
+  pub none_released : (draining : Bool) →
+      let s = devices (at_tick (suc k) script) (begun (machines_after guest start script r calls k).real) in drained draining (suc k) s ≡ s
+
+abbrev pub CalmUnlatched : Type 0
+CalmUnlatched =
+    (guest : GuestStart) (start : RealTimeStart) (script : List (ℕ × Event)) (r : List (ℕ × RLine)) (calls : List (ℕ × Call)) (k : ℕ)
+    → has (stepped_after guest start script r calls k).latch 0 ≡ false → NothingDue guest start script r calls k
+
+-- The guest is picked only in a tick that drains: from any state in which a thread that is on is ready, and so in every run
+
+abbrev pub TickDrains : Type 0
+TickDrains =
+    (t : ℕ) (events : List Event) (m : RealTime) → ((i : ℕ) → m.on ≡ Some (Thread i) → is_ready i m.ready ≡ true)
+    → (opened t events m).real.on ≡ Some Guest → drains m ≡ true
+
+abbrev pub GuestDrains : Type 0
+GuestDrains =
+    (start : RealTimeStart) (script : List (ℕ × Event)) (calls : List (ℕ × Call)) (k : ℕ)
+    → (opened (suc k) (at_tick (suc k) script) (real_after start script calls k)).real.on ≡ Some Guest → drains (real_after start script calls k) ≡ true

@@ -1,0 +1,13 @@
+//! Worked runs of both machines, with the lines that the definitions give by computation.
+//!
+//! The sides are small, and the processor is the one of `i386_execute`, with its own table of spellings. A row is a clause whose proof
+//! is that both sides compute to one thing.
+#![tactic(auto)]
+
+mod guest;
+mod hardware;
+mod real_time;
+
+pub use guest::guest_rows;
+pub use hardware::hardware_rows;
+pub use real_time::real_time_rows;
