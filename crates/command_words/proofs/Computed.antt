@@ -1,0 +1,31 @@
+-- The usual words, by computation.
+use Rattle.std.proofs.Common.{refl}
+use Rattle.clap.proofs.OnLiterals.{clap_on_literals}
+use Rattle.command_words.specs.Command.{run_command, is_taken, rows_read}
+use Rattle.command_words.specs.Run.{run_words_of}
+use Rattle.command_words.specs.Rows.{ReadsUsualWords, RefusesOtherWords}
+
+pub usual : ReadsUsualWords
+unfolding clap_on_literals run_command is_taken rows_read run_words_of
+usual = record { behind = refl; before = refl; joined = refl; joined_before = refl; after_dashes = refl }
+
+pub others : RefusesOtherWords
+unfolding clap_on_literals run_command is_taken rows_read run_words_of
+others = record {
+  nothing = refl;
+  no_ticks = refl;
+  no_value = refl;
+  empty_value = refl;
+  no_number = refl;
+  negative = refl;
+  negative_joined = refl;
+  no_system = refl;
+  empty_system = refl;
+  two_systems = refl;
+  two_options = refl;
+  shortened = refl;
+  unknown = refl;
+  help = refl;
+  short_help = refl;
+  version = refl;
+}

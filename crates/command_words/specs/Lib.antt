@@ -1,0 +1,5 @@
+pub mod Values
+pub mod Command
+pub mod Run
+pub mod Parse
+pub mod Rows

@@ -1,0 +1,42 @@
+-- What the words behind `run` ask for.
+use Rattle.std.specs.Prelude.{◌≡◌, true, false, ◌&&◌, ℕ, List, codes, if◌then◌else◌, Option, Some, None, option_map, option_and_then, Result, Ok, Err}
+use Rattle.clap.specs.Words.{Row, first_of}
+use Rattle.command_words.specs.Values.{is_name, is_number}
+use Rattle.command_words.specs.Command.{is_taken, rows_read}
+use Rattle.command_words.specs.declared.run.RunWords.{RunWords}
+use Rattle.command_words.specs.declared.run.WordsRefusal.{WordsRefusal}
+use Rattle.command_words.specs.declared.run.WordsRefusal.TheVariants.{Usage, NoMemory}
+
+-- the name of a system file, and the word of the ticks
+pub record AskedRun : Type 0 where
+  pub system : List ℕ
+  pub ticks : List ℕ
+
+-- the values of the arguments
+abbrev pub asked_in : List Row → Option AskedRun
+asked_in rows = option_and_then (λ system. option_map (λ ticks. record { system = system; ticks = ticks })
+    (first_of (codes "ticks") rows)) (first_of (codes "system") rows)
+
+-- the system is a name, and the ticks are a number
+abbrev pub checked : AskedRun → Option AskedRun
+checked run = if is_name run.system && is_number run.ticks then Some run else None
+
+-- what the words behind `run` ask for, where the command takes them and both values are right
+unfoldable pub run_words_of : List (List ℕ) → Option AskedRun
+run_words_of words = if is_taken words then option_and_then checked (asked_in (rows_read words)) else None
+
+abbrev pub asked_by : RunWords → AskedRun
+asked_by words = record { system = words.system.now; ticks = words.ticks.now }
+
+-- the values of words that the command takes, before they are checked; Usage exactly where it takes none, unless memory is
+-- refused
+abbrev pub Reads : List (List ℕ) → Result RunWords WordsRefusal → Type 0
+Reads words (Ok read) = (is_taken words ≡ true) × (asked_in (rows_read words) ≡ Some (asked_by read))
+Reads words (Err Usage) = is_taken words ≡ false
+Reads words (Err NoMemory) = Unit {0}
+
+-- a reader answers what the words ask for, and Usage exactly where they ask for nothing, unless memory is refused
+abbrev pub Answers : Result RunWords WordsRefusal → Option AskedRun → Type 0
+Answers (Ok read) asked = asked ≡ Some (asked_by read)
+Answers (Err Usage) asked = asked ≡ None
+Answers (Err NoMemory) asked = Unit {0}

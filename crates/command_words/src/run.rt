@@ -1,0 +1,76 @@
+// The words behind `run`.
+ghost use Rattle.std.specs.Prelude.{◌≡◌, map, string_bytes, IfOk, IsTrue};
+ghost use Rattle.command_words.specs.Parse.{Parses};
+ghost use Rattle.command_words.specs.Values.{is_name as name_test, is_number as number_test};
+ghost use Rattle.command_words.specs.Run.{run_words_of, asked_by, Answers, Reads};
+
+use crate::command::run_command;
+use crate::values::{is_name, is_number};
+use clap::ArgMatches;
+use clap::error::ErrorKind;
+use std::alloc::Global;
+
+/// What the words behind `run` ask for. Both texts are those of the words.
+#[derive(Clone, Copy, Debug, PartialEq, Eq)]
+pub struct RunWords<'a> {
+    /// The name of the system file.
+    pub system: &'a str,
+    /// The ticks, as they were given: 1 to 20 decimal digits.
+    pub ticks: &'a str,
+}
+
+/// Why words aren't taken.
+#[derive(Clone, Copy, Debug, PartialEq, Eq)]
+pub enum WordsRefusal {
+    /// They aren't the words of the command.
+    Usage,
+    /// Memory was refused.
+    NoMemory,
+}
+
+/// Reads the words behind `run`, `SYSTEM --ticks N` in either order, or with `--ticks=N`. Which words these are is what
+/// the crate `clap` defines for a command of one positional argument and one option, both of them required. SYSTEM is a
+/// name of 1 to 255 bytes, and N is 1 to 20 decimal digits.
+#[tactic(auto, unfolding(crate::specs::Run::run_words_of))]
+pub fn read_run_words<'a>(alloc: Global, words: &'a [String]) -> Result<RunWords<'a>, WordsRefusal>
+    ensures exact { Answers result (run_words_of (map string_bytes words.entry.now)) }
+    ensures name { IfOk result (λ run. IsTrue (name_test run.system.now)) }
+    ensures number { IfOk result (λ run. IsTrue (number_test run.ticks.now)) }
+{
+    let said = taken_words(alloc, words)?;
+    if is_name(said.system.as_bytes()) && is_number(said.ticks.as_bytes()) {
+        Ok(said)
+    } else {
+        Err(WordsRefusal::Usage)
+    }
+}
+
+// The values of the words, where the command takes them.
+fn taken_words<'a>(alloc: Global, words: &'a [String]) -> Result<RunWords<'a>, WordsRefusal>
+    ensures { Reads (map string_bytes words.entry.now) result }
+{
+    let matches = parse(alloc, words)?;
+    let system = match matches.get_str("system") {
+        Some(system) => system,
+        None => return Err(WordsRefusal::Usage),
+    };
+    let ticks = match matches.get_str("ticks") {
+        Some(ticks) => ticks,
+        None => return Err(WordsRefusal::Usage),
+    };
+    Ok(RunWords { system, ticks })
+}
+
+fn parse<'a>(alloc: Global, words: &'a [String]) -> Result<ArgMatches<'a>, WordsRefusal>
+    ensures { Parses (map string_bytes words.entry.now) result }
+{
+    let command = match run_command(alloc) {
+        Ok(command) => command,
+        Err(_) => return Err(WordsRefusal::NoMemory),
+    };
+    match command.try_get_matches_from(words) {
+        Ok(matches) => Ok(matches),
+        Err(fault) if fault.kind() == ErrorKind::OutOfMemory => Err(WordsRefusal::NoMemory),
+        Err(_) => Err(WordsRefusal::Usage),
+    }
+}

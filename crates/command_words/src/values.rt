@@ -1,0 +1,52 @@
+// The names and the numbers among the words.
+ghost use Rattle.std.specs.Prelude.{◌≡◌, length};
+ghost use Rattle.std.specs.List.{list_all};
+ghost use Rattle.std.specs.Char.{is_ascii_digit};
+ghost use Rattle.command_words.specs.Values.{is_name as name_test, is_number as number_test, ticks_of};
+
+use line_text::read_decimal;
+
+/// The longest name, in bytes.
+const NAME_SIZE: usize = 255;
+
+/// The longest number, in digits.
+const NUMBER_SIZE: usize = 20;
+
+/// The most ticks of a run.
+const TICK_LIMIT: u64 = 1_000_000_000;
+
+/// Whether a word is a name: it has 1 to 255 bytes.
+pub fn is_name(text: &[u8]) -> bool
+    ensures { result ≡ name_test text.now }
+{
+    1 <= text.len() && text.len() <= NAME_SIZE
+}
+
+/// Whether a word is a number: 1 to 20 decimal digits.
+pub fn is_number(text: &[u8]) -> bool
+    ensures { result ≡ number_test text.now }
+{
+    1 <= text.len() && text.len() <= NUMBER_SIZE && are_digits(text)
+}
+
+fn are_digits(text: &[u8]) -> bool
+    ensures { result ≡ list_all is_ascii_digit text.now }
+{
+    text.iter().all(|c| c.is_ascii_digit())
+}
+
+/// The ticks that a number says, where they are 1 to 1,000,000,000.
+pub fn read_ticks(text: &[u8]) -> Option<u32>
+    ensures { result ≡ ticks_of text.now }
+{
+    match read_decimal(text) {
+        Some(n) => {
+            if n >= 1 && n <= TICK_LIMIT {
+                Some(n as u32)
+            } else {
+                None
+            }
+        }
+        None => None,
+    }
+}
