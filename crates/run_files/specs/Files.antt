@@ -1,0 +1,90 @@
+-- The files of a run: what the bytes of each make, or why they are refused.
+use Rattle.std.specs.Prelude.{◌≡◌, ◌≢◌, ◌≤◌, ℕ, List, [], ◌∷◌, length, IfSome, Option, Some, None, Result, Ok, Err}
+use Rattle.toml.specs.Data.{Members}
+use Rattle.system_file.specs.declared.system.System.{System}
+use Rattle.system_file.specs.Fields.{system_of}
+use Rattle.system_file.specs.Read.{document_of}
+use Rattle.elf_loader.specs.declared.image.Image.{Image}
+use Rattle.elf_loader.specs.File.{image_of}
+use Rattle.run_memory.specs.declared.sides.Sides.{Sides}
+use Rattle.run_memory.specs.Guest.{Misfit, PartOutside, PartsOverlap}
+use Rattle.run_memory.specs.Sides.{sides_of}
+use Rattle.device_script.specs.declared.script.Script.{Script}
+use Rattle.device_script.specs.Event.{Events}
+use Rattle.device_script.specs.Script.{script_of}
+use Rattle.run_files.specs.declared.cause.Cause.{Cause}
+use Rattle.run_files.specs.declared.cause.Cause.TheVariants as cause
+use Rattle.run_files.specs.declared.cause.Refusal.{Refusal}
+use Rattle.run_files.specs.declared.cause.Refusal.TheVariants.{Because, NoMemory}
+
+-- The system file
+
+abbrev pub alone : List (List ℕ) → System → Result System Cause
+alone [] system = Ok system
+alone (name ∷ names) system = Err cause.Field
+
+-- a system without modules; one that has some is refused by its field
+abbrev pub without_modules : System → Result System Cause
+without_modules system = alone system.modules system
+
+abbrev pub fields_in : Option System → Result System Cause
+fields_in None = Err cause.Field
+fields_in (Some system) = without_modules system
+
+abbrev pub members_in : Option Members → Result System Cause
+members_in None = Err cause.Document
+members_in (Some members) = fields_in (system_of members)
+
+-- first that there is a document (TOML 1.1), then its fields
+unfoldable pub system_in : List ℕ → Result System Cause
+system_in bytes = members_in (document_of bytes)
+
+-- a name has 1 to 255 bytes
+abbrev pub IsName : List ℕ → Type 0
+IsName text = (1 ≤ length text) × (length text ≤ 255)
+
+-- what the fields of an accepted system keep
+pub record IsAccepted (system : System) : Type 0 where
+  pub image : IsName system.image
+  pub script : IfSome system.script IsName
+  pub guest : (65536 ≤ system.guest_memory) × (system.guest_memory ≤ 16777216)
+  pub real_time : (65536 ≤ system.real_time_memory) × (system.real_time_memory ≤ 4194304)
+  pub modules : system.modules ≡ []
+
+-- The image
+
+abbrev pub fitted : Result Sides Misfit → Result Sides Cause
+fitted (Ok sides) = Ok sides
+fitted (Err PartOutside) = Err cause.Outside
+fitted (Err PartsOverlap) = Err cause.Overlap
+
+-- both sides, of the sizes that the system has
+abbrev pub placed_in : System → Image → Result Sides Cause
+placed_in system image = fitted (sides_of system.guest_memory system.real_time_memory image)
+
+abbrev pub image_in : System → Result Image ℕ → Result Sides Cause
+image_in system (Ok image) = placed_in system image
+image_in system (Err rule) = Err (cause.Image rule)
+
+-- first that the file is an image (ELF32), then that it fits
+unfoldable pub sides_in : System → List ℕ → Result Sides Cause
+sides_in system bytes = image_in system (image_of bytes)
+
+-- The script
+
+abbrev pub events_in : Result Events ℕ → Result Script Cause
+events_in (Ok events) = Ok (record { events = events })
+events_in (Err line) = Err (cause.Line line)
+
+unfoldable pub script_in : List ℕ → Result Script Cause
+script_in bytes = events_in (script_of bytes)
+
+-- what is made of a file, unless memory is refused
+abbrev pub Accepts : {A : Type 0} → Result A Refusal → Result A Cause → Type 0
+Accepts (Ok made) wanted = wanted ≡ Ok made
+Accepts (Err (Because why)) wanted = wanted ≡ Err why
+Accepts (Err NoMemory) wanted = Unit {0}
+
+-- what bytes are refused for is never the words, the ticks, or a reading that failed
+abbrev pub BlamesBytes : {A : Type 0} → Result A Refusal → Type 0
+BlamesBytes result = (result ≢ Err (Because cause.Read)) × (result ≢ Err (Because cause.Words)) × (result ≢ Err (Because cause.Ticks))

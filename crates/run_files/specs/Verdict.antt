@@ -1,0 +1,72 @@
+-- What the words of `run` and the files come to: the first cause of a refusal with the name or the word that it is about, in
+-- the order of the words, the ticks, the system file, the image and the script; or else the run that is accepted.
+use Rattle.std.specs.Prelude.{ℕ, List, [], length, nat_lt, if◌then◌else◌, Option, Some, None, Result, Ok, Err}
+use Rattle.outside_io.specs.Store.{Files}
+use Rattle.command_words.specs.Values.{ticks_of}
+use Rattle.command_words.specs.Run.{AskedRun}
+use Rattle.system_file.specs.declared.system.System.{System}
+use Rattle.run_memory.specs.declared.sides.Sides.{Sides}
+use Rattle.device_script.specs.declared.script.Script.{Script}
+use Rattle.run_files.specs.declared.run.AcceptedRun.{AcceptedRun}
+use Rattle.run_files.specs.declared.cause.Cause.{Cause}
+use Rattle.run_files.specs.declared.cause.Cause.TheVariants as cause
+use Rattle.run_files.specs.Files.{system_in, sides_in, script_in}
+
+-- a cause, and the name of the file or the word
+abbrev pub About : Type 0
+About = Cause × List ℕ
+
+abbrev pub Verdict : Type 0
+Verdict = Result AcceptedRun About
+
+infixl 10 ◌>>=◌
+abbrev pub ◌>>=◌ : {A B E : Type 0} → Result A E → (A → Result B E) → Result B E
+(Ok x) >>= f = f x
+(Err e) >>= f = Err e
+
+abbrev pub named : {A : Type 0} → List ℕ → Result A Cause → Result A About
+named name (Ok x) = Ok x
+named name (Err why) = Err (why, name)
+
+-- the bytes of a file, which are at most 33,554,432
+abbrev pub content_of : Option (List ℕ) → Result (List ℕ) Cause
+content_of None = Err cause.Read
+content_of (Some bytes) = if nat_lt 33554432 (length bytes) then Err cause.TooLarge else Ok bytes
+
+-- what is made of a file, by what its name holds
+abbrev pub made : {A : Type 0} → (List ℕ → Result A Cause) → Option (List ℕ) → Result A Cause
+made make held = content_of held >>= make
+
+-- what is made of the file with a name
+abbrev pub taken : {A : Type 0} → (List ℕ → Result A Cause) → Files → List ℕ → Result A About
+taken make files name = named name (made make (files name))
+
+-- no script is a script without events
+abbrev pub script_named : Files → Option (List ℕ) → Result Script About
+script_named files None = Ok (record { events = [] })
+script_named files (Some name) = taken script_in files name
+
+-- the script, and with it the run
+abbrev pub script_verdict : Option (List ℕ) → Sides → ℕ → Files → Verdict
+script_verdict name sides ticks files =
+    script_named files name >>= λ script. Ok (record { sides = sides; script = script; ticks = ticks })
+
+-- the image, and then the script
+abbrev pub image_verdict : System → ℕ → Files → Verdict
+image_verdict system ticks files =
+    taken (sides_in system) files system.image >>= λ sides. script_verdict system.script sides ticks files
+
+-- the system file, and then the image
+unfoldable pub system_verdict : List ℕ → ℕ → Files → Verdict
+system_verdict name ticks files =
+    taken system_in files name >>= λ system. image_verdict system ticks files
+
+-- the ticks come before the files
+abbrev pub ticks_verdict : AskedRun → Option ℕ → Files → Verdict
+ticks_verdict run None files = Err (cause.Ticks, run.ticks)
+ticks_verdict run (Some ticks) files = system_verdict run.system ticks files
+
+-- the words come first
+abbrev pub run_verdict : Option AskedRun → Files → Verdict
+run_verdict None files = Err (cause.Words, [])
+run_verdict (Some run) files = ticks_verdict run (ticks_of run.ticks) files

@@ -1,0 +1,3 @@
+pub mod Fetch
+pub mod Open
+pub mod Request

@@ -1,0 +1,13 @@
+//! The request of `run`: its words, and its system file, its image and its script, fetched from a store in this order.
+#![tactic(auto)]
+
+mod fetch;
+mod open;
+mod request;
+
+pub use fetch::fetch_file;
+pub use open::{Opened, open_run};
+pub use request::request_run;
+
+#[cfg(test)]
+mod tests;
