@@ -1,2 +1,4 @@
 pub mod Machine
 pub mod Pick
+pub mod Coming
+pub mod End

@@ -1,38 +1,59 @@
 -- What a machine holds, and the bare machine that it stands for.
-use Rattle.std.specs.Prelude.{ℕ, Option, List, length}
+use Rattle.std.specs.Prelude.{ℕ, Option, Some, None, List, [], ◌∷◌, length}
 use Rattle.cpu_state.specs.declared.registers.Registers.{Registers}
 use Rattle.memory_model.specs.Side.{Side}
 use Rattle.flat_memory.specs.Parts.{Parts}
-use Rattle.soft_flags.specs.declared.flags.SoftFlags.{SoftFlags}
-use Rattle.trace_lines.specs.declared.lines.GLine.{GLine}
-use Rattle.trace_lines.specs.declared.lines.Mode.{Mode}
-use Rattle.trace_lines.specs.declared.lines.Who.{Who}
-use Rattle.bare_machine.specs.State.{Bare, GuestStart, Outcome}
+use Rattle.device_script.specs.declared.event.Event.{Event}
+use Rattle.port_map.specs.Serial.{Serial}
+use Rattle.port_map.specs.declared.owner.Owner.TheVariants.{Guest as OfGuest}
+use Rattle.port_board.specs.Board.{serial_of}
+use Rattle.port_board.specs.declared.board.Board.{Board}
+use Rattle.line_kinds.specs.declared.kinds.GLine.{GLine}
+use Rattle.line_kinds.specs.declared.kinds.Who.{Who}
+use Rattle.bare_machine.specs.State.{Bare, GuestStart, no_services}
+use Rattle.rt_core.specs.declared.guest.Guest.{Guest}
 
--- `on` is what is on the processor, and `ticks` the number of ticks that were run
+-- `guest` is the guest's soft side, `on` what is on the processor, `coming` the events of the script's ticks to come, and `ticks` the
+-- number of ticks that were run
 pub record MachineParts : Type 0 where
   pub memory : Parts
   pub registers : Registers
-  pub soft : SoftFlags
-  pub mode : Mode
+  pub board : Board
+  pub guest : Guest
   pub on : Option Who
+  pub coming : List (ℕ × Event)
   pub ticks : ℕ
 
 -- the guest's bytes, from address 0 on
 abbrev pub guest_side : Parts → Side
 guest_side memory = record { first = 0; bytes = memory.guest }
 
--- the bare machine over them
-abbrev pub bare_with : Parts → Registers → SoftFlags → Mode → Bare
-bare_with memory registers soft mode = record { registers = registers; side = guest_side memory; soft = soft; mode = mode }
+-- COM1
+abbrev pub com1_of : Board → Serial
+com1_of board = serial_of OfGuest board
+
+-- the bare machine over them. It has no timer yet, and no FIFOs
+abbrev pub bare_with : Parts → Registers → Serial → Guest → Bare
+bare_with memory registers com1 guest = record {
+  registers = registers;
+  side = guest_side memory;
+  com1 = com1;
+  soft = guest.soft;
+  asked = guest.pending;
+  timer_start = 0;
+  timer_period = 0;
+  mode = guest.mode;
+  services = no_services;
+}
 
 abbrev pub bare_of : MachineParts → Bare
-bare_of m = bare_with m.memory m.registers m.soft m.mode
+bare_of m = bare_with m.memory m.registers (com1_of m.board) m.guest
 
 -- what the guest starts from
 abbrev pub start_of : Parts → ℕ → GuestStart
-start_of memory entry = record { bytes = memory.guest; entry = entry; size = length memory.guest }
+start_of memory entry = record { bytes = memory.guest; entry = entry; size = length memory.guest; services = no_services }
 
--- what a step leaves, with the G lines that it appended
-abbrev pub outcome_with : Parts → Registers → SoftFlags → Mode → List GLine → Outcome
-outcome_with memory registers soft mode lines = record { after = bare_with memory registers soft mode; lines = lines }
+-- the line of a unit, if it has one, as a list
+abbrev pub listed : Option GLine → List GLine
+listed None = []
+listed (Some line) = line ∷ []

@@ -1,9 +1,19 @@
 // The end lines.
-ghost use Rattle.std.specs.Prelude.{◌≡◌, ◌∷◌};
+ghost use Rattle.std.specs.Prelude.{◌≡◌, ◌∷◌, []};
 ghost use Rattle.soft_entry.specs.Entry.{flags_word};
+ghost use Rattle.side_digest.specs.Digest.{digest};
+ghost use Rattle.rt_core.specs.End.{quiet_end};
 
 use cpu_state::{Eflags, Registers};
-use trace_lines::{GLine, Mode};
+use side_digest::side_digest;
+use trace_lines::{GLine, Mode, RLine};
+
+/// The two end lines of each half.
+#[derive(Clone, Copy, Debug)]
+pub struct EndLines {
+    pub r: [RLine; 2],
+    pub g: [GLine; 2],
+}
 
 fn end_words(eip: u32, word: u32, general: &[u32; 8]) -> [u32; 10]
     ensures { result ≡ eip ∷ word ∷ general.now }
@@ -27,4 +37,18 @@ pub fn guest_end(registers: &Registers, flag: bool, mode: Mode) -> GLine
         mode,
         end_words(registers.eip, eflags.word(), &registers.general),
     )
+}
+
+/// The end lines of a side: its own first one, and its digest.
+pub fn guest_ends(first: GLine, bytes: &[u8]) -> [GLine; 2]
+    ensures { result ≡ first ∷ GLine.Memory (digest bytes.now) ∷ [] }
+{
+    [first, GLine::Memory(side_digest(bytes))]
+}
+
+/// The end lines of a real-time side without threads.
+pub fn real_time_ends(bytes: &[u8]) -> [RLine; 2]
+    ensures { result ≡ quiet_end bytes.now }
+{
+    [RLine::End(0, 0), RLine::Memory(side_digest(bytes))]
 }

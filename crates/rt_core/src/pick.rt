@@ -10,11 +10,8 @@ pub fn pick(on: &mut Option<Who>, lines: &mut Lines)
     ensures picked { on.new ≡ Some Who.Guest }
     ensures lines { lines.new ≡ record lines.old { r = guest_picked on.old } }
 {
-    match on {
-        Some(Who::Guest) => {}
-        None => {
-            *on = Some(Who::Guest);
-            lines.push_r(RLine::On(Who::Guest));
-        }
+    if *on != Some(Who::Guest) {
+        *on = Some(Who::Guest);
+        lines.push_r(RLine::On(Who::Guest));
     }
 }

@@ -1,21 +1,36 @@
-// The fourth step of a tick: the unit of the activity that is on the processor.
-ghost use Rattle.std.specs.Prelude.{◌≡◌, ◌≢◌, ◌≤◌, ◌<◌, ◌^◌, ℕ, [], length};
+// The fourth step of a tick: the guest's unit.
+ghost use Rattle.std.specs.Prelude.{◌≡◌, ◌≢◌, ◌≤◌, ◌<◌, ◌+◌, ◌^◌, ◌++◌, ℕ, [], ◌∷◌, length, if◌then◌else◌, None, IfSome};
 ghost use Rattle.flat_memory.specs.Side.{side_at};
+ghost use Rattle.line_sets.specs.LineSet.{with_line};
+ghost use Rattle.port_map.specs.Serial.{rose};
+ghost use Rattle.port_map.specs.declared.owner.Owner.TheVariants as owner;
+ghost use Rattle.port_board.specs.Board.{accessed, rises_of};
 ghost use Rattle.breach_monitor.specs.GuestUnit.{answer_to};
 ghost use Rattle.i386_execute.specs.Unit.{address_behind};
-ghost use Rattle.soft_flags.specs.SoftFlags.{HasTableIn};
+ghost use Rattle.soft_flags.specs.SoftFlags.{HasTableIn, is_open};
+ghost use Rattle.pending_irqs.specs.Pending.{lowest_enabled};
 ghost use Rattle.soft_entry.specs.Entry.{entering};
 ghost use Rattle.soft_gates.specs.Gate.{gated, WhenOutside};
-ghost use Rattle.bare_machine.specs.Unit.{unit_at, int_entry, gate as gate_of, guest_unit as guest_unit_of, use_kind, access_kind, breach_kind};
-ghost use Rattle.rt_core.specs.Machine.{guest_side, bare_with, outcome_with};
+ghost use Rattle.machine_parts.specs.Processor.{unit_at};
+ghost use Rattle.bare_machine.specs.State.{Done};
+ghost use Rattle.bare_machine.specs.Unit.{int_entry, asked_entry, gate as gate_of, instruction as instruction_of, guest_unit as guest_unit_of, use_kind, access_kind, breach_kind};
+ghost use Rattle.rt_core.specs.Machine.{guest_side, com1_of, bare_with, listed};
 
-use breach_monitor::{Breach, GuestUnit, guest_unit_on};
+use crate::Guest;
+use crate::devices::mark;
+use breach_monitor::{Breach, GuestUnit, guest_unit_on, unit_keeps_others, unit_of_serial};
 use cpu_state::{Access, Privileged, Registers};
 use flat_memory::{FlatMemory, Side};
+use pending_irqs::Pending;
+use port_board::Board;
+use port_map::Owner;
 use soft_entry::{Entry, enter};
 use soft_flags::SoftFlags;
 use soft_gates::{GateUnit, gate};
 use trace_lines::{BreachKind, GLine, Lines, Mode};
+
+/// The vector of the first interrupt line; that of line n is n above it.
+const FIRST_LINE: u8 = 0x20;
 
 fn use_kind(kind: Privileged) -> BreachKind
     ensures { result ≡ use_kind kind }
@@ -51,17 +66,45 @@ fn breach_kind(breach: Breach) -> BreachKind
     }
 }
 
-// A unit of the processor over the guest's part of the memory.
-fn perform(memory: &mut FlatMemory, registers: &mut Registers) -> GuestUnit
-    ensures answer { let side = guest_side memory.old in result ≡ answer_to registers.old.eip (address_behind registers.old side) (unit_at registers.old side).stepped }
-    ensures registers { registers.new ≡ (unit_at registers.old (guest_side memory.old)).registers }
-    ensures side { guest_side memory.new ≡ (unit_at registers.old (guest_side memory.old)).bus.side }
+// A unit of the processor over the guest's part of the memory and COM1.
+#[tactic(auto, unfolding(machine_parts::specs::Processor::unit_at))]
+fn run_unit(memory: &mut FlatMemory, registers: &mut Registers, board: &mut Board) -> GuestUnit
+    ensures answer { let side = guest_side memory.old in result ≡ answer_to registers.old.eip (address_behind registers.old side) (unit_at owner.Guest registers.old side (com1_of board.old)).stepped }
+    ensures registers { registers.new ≡ (unit_at owner.Guest registers.old (guest_side memory.old) (com1_of board.old)).registers }
+    ensures side { guest_side memory.new ≡ (unit_at owner.Guest registers.old (guest_side memory.old) (com1_of board.old)).bus.side }
+    ensures board { board.new ≡ accessed owner.Guest (unit_at owner.Guest registers.old (guest_side memory.old) (com1_of board.old)).bus.devices board.old }
     ensures real_time { memory.new.real_time ≡ memory.old.real_time }
     ensures size { length memory.new.guest ≡ length memory.old.guest }
-    ensures unchanged { result ≢ GuestUnit.Next → (registers.new ≡ registers.old) × (memory.new ≡ memory.old) }
+    ensures unchanged { result ≢ GuestUnit.Next → (registers.new ≡ registers.old) × (memory.new ≡ memory.old) × (board.new ≡ board.old) }
     ensures gate { (number next : ℕ) → result ≡ GuestUnit.Gate number next → (240 ≤ number) × (number ≤ 246) }
 {
-    guest_unit_on(registers, memory.guest())
+    unit_of_serial(Owner::Guest);
+    unit_keeps_others(Owner::Guest);
+    guest_unit_on(registers, memory.guest(), board)
+}
+
+// The same, where a rise of COM1 is marked for the guest at once.
+fn perform(
+    memory: &mut FlatMemory,
+    registers: &mut Registers,
+    board: &mut Board,
+    pending: &mut Pending,
+) -> GuestUnit
+    requires none_rose { rises_of board.old ≡ 0 }
+    ensures answer { let side = guest_side memory.old in result ≡ answer_to registers.old.eip (address_behind registers.old side) (unit_at owner.Guest registers.old side (com1_of board.old)).stepped }
+    ensures registers { registers.new ≡ (unit_at owner.Guest registers.old (guest_side memory.old) (com1_of board.old)).registers }
+    ensures side { guest_side memory.new ≡ (unit_at owner.Guest registers.old (guest_side memory.old) (com1_of board.old)).bus.side }
+    ensures com1 { com1_of board.new ≡ (unit_at owner.Guest registers.old (guest_side memory.old) (com1_of board.old)).bus.devices }
+    ensures asked { pending.new ≡ (if rose (com1_of board.old) (com1_of board.new) then with_line pending.old 4 else pending.old) }
+    ensures none_rose { rises_of board.new ≡ 0 }
+    ensures real_time { memory.new.real_time ≡ memory.old.real_time }
+    ensures size { length memory.new.guest ≡ length memory.old.guest }
+    ensures unchanged { result ≢ GuestUnit.Next → (registers.new ≡ registers.old) × (memory.new ≡ memory.old) × (com1_of board.new ≡ com1_of board.old) × (pending.new ≡ pending.old) }
+    ensures gate { (number next : ℕ) → result ≡ GuestUnit.Gate number next → (240 ≤ number) × (number ≤ 246) }
+{
+    let unit = run_unit(memory, registers, board);
+    mark(board.take_rises(), pending);
+    unit
 }
 
 // An entry over bytes from address 0 on.
@@ -109,31 +152,64 @@ fn enter_vector(
     push: u32,
     memory: &mut FlatMemory,
     registers: &mut Registers,
-    soft: &mut SoftFlags,
-    lines: &mut Lines,
-) -> Mode
-    requires empty { lines.old.g ≡ [] }
+    guest: &mut Guest,
+) -> GLine
     requires size { length memory.old.guest < 2 ^ 32 }
-    requires table { HasTableIn soft.old (length memory.old.guest) }
-    ensures outcome { outcome_with memory.new registers.new soft.new result lines.new.g ≡ int_entry vector push (bare_with memory.old registers.old soft.old Mode.Runs) }
-    ensures table { HasTableIn soft.new (length memory.new.guest) }
+    requires table { HasTableIn guest.old.soft (length memory.old.guest) }
+    requires runs { guest.old.mode ≡ Mode.Runs }
+    ensures outcome { (com1 : _) → int_entry vector push (bare_with memory.old registers.old com1 guest.old) ≡ Done (bare_with memory.new registers.new com1 guest.new) (result ∷ []) }
+    ensures table { HasTableIn guest.new.soft (length memory.new.guest) }
     ensures size { length memory.new.guest ≡ length memory.old.guest }
     ensures real_time { memory.new.real_time ≡ memory.old.real_time }
-    ensures r_lines { lines.new.r ≡ lines.old.r }
-    ensures h_lines { lines.new.h ≡ lines.old.h }
 {
-    match enter_on(vector, push, registers, soft, memory.guest()) {
-        Entry::Entered => {
-            lines.push_g(GLine::Int(u32::from(vector)));
-            Mode::Runs
-        }
+    match enter_on(vector, push, registers, &mut guest.soft, memory.guest()) {
+        Entry::Entered => GLine::Int(u32::from(vector)),
         Entry::Shutdown => {
-            lines.push_g(GLine::Shutdown(u32::from(vector)));
-            Mode::Stopped
+            guest.mode = Mode::Stopped;
+            GLine::Shutdown(u32::from(vector))
         }
         Entry::Outside(at) => {
-            lines.push_g(GLine::Breach(BreachKind::Store(at)));
-            Mode::Stopped
+            guest.mode = Mode::Stopped;
+            GLine::Breach(BreachKind::Store(at))
+        }
+    }
+}
+
+// An asked line, with its line. Where it is entered, it is asked no more, and a halted guest runs.
+fn enter_line(
+    line: u8,
+    memory: &mut FlatMemory,
+    registers: &mut Registers,
+    guest: &mut Guest,
+) -> GLine
+    requires line { line < 32 }
+    requires size { length memory.old.guest < 2 ^ 32 }
+    requires table { HasTableIn guest.old.soft (length memory.old.guest) }
+    ensures outcome { (com1 : _) → asked_entry line (bare_with memory.old registers.old com1 guest.old) ≡ Done (bare_with memory.new registers.new com1 guest.new) (result ∷ []) }
+    ensures table { HasTableIn guest.new.soft (length memory.new.guest) }
+    ensures size { length memory.new.guest ≡ length memory.old.guest }
+    ensures real_time { memory.new.real_time ≡ memory.old.real_time }
+{
+    let vector = FIRST_LINE + line;
+    match enter_on(
+        vector,
+        registers.eip,
+        registers,
+        &mut guest.soft,
+        memory.guest(),
+    ) {
+        Entry::Entered => {
+            guest.pending.clear(line);
+            guest.mode = Mode::Runs;
+            GLine::Enter(u32::from(vector))
+        }
+        Entry::Shutdown => {
+            guest.mode = Mode::Stopped;
+            GLine::Shutdown(u32::from(vector))
+        }
+        Entry::Outside(at) => {
+            guest.mode = Mode::Stopped;
+            GLine::Breach(BreachKind::Store(at))
         }
     }
 }
@@ -145,68 +221,122 @@ fn perform_gate(
     now: u32,
     memory: &mut FlatMemory,
     registers: &mut Registers,
-    soft: &mut SoftFlags,
-    lines: &mut Lines,
-) -> Mode
+    guest: &mut Guest,
+) -> Option<GLine>
     requires first { 240 ≤ number }
     requires last { number ≤ 246 }
-    requires empty { lines.old.g ≡ [] }
     requires size { length memory.old.guest < 2 ^ 32 }
-    requires table { HasTableIn soft.old (length memory.old.guest) }
-    ensures outcome { outcome_with memory.new registers.new soft.new result lines.new.g ≡ gate_of now number next (bare_with memory.old registers.old soft.old Mode.Runs) }
-    ensures table { HasTableIn soft.new (length memory.new.guest) }
+    requires table { HasTableIn guest.old.soft (length memory.old.guest) }
+    ensures outcome { (com1 : _) → gate_of now number next (bare_with memory.old registers.old com1 guest.old) ≡ Done (bare_with memory.new registers.new com1 guest.new) (listed result) }
+    ensures table { HasTableIn guest.new.soft (length memory.new.guest) }
     ensures size { length memory.new.guest ≡ length memory.old.guest }
     ensures real_time { memory.new.real_time ≡ memory.old.real_time }
-    ensures r_lines { lines.new.r ≡ lines.old.r }
-    ensures h_lines { lines.new.h ≡ lines.old.h }
 {
-    match gate_on(number, next, now, registers, soft, memory.guest()) {
-        GateUnit::Finished => Mode::Runs,
+    match gate_on(
+        number,
+        next,
+        now,
+        registers,
+        &mut guest.soft,
+        memory.guest(),
+    ) {
+        GateUnit::Finished => None,
         GateUnit::Halted => {
-            lines.push_g(GLine::Halt);
-            Mode::Halted
+            guest.mode = Mode::Halted;
+            Some(GLine::Halt)
         }
         GateUnit::Outside(access, at) => {
-            lines.push_g(GLine::Breach(access_kind(access, at)));
-            Mode::Stopped
+            guest.mode = Mode::Stopped;
+            Some(GLine::Breach(access_kind(access, at)))
         }
     }
 }
 
-/// The guest's unit in tick `now`. Where the guest is halted or stopped, nothing happens.
+// One instruction of a guest that runs.
+fn instruction(
+    now: u32,
+    memory: &mut FlatMemory,
+    registers: &mut Registers,
+    board: &mut Board,
+    guest: &mut Guest,
+) -> Option<GLine>
+    requires size { length memory.old.guest < 2 ^ 32 }
+    requires table { HasTableIn guest.old.soft (length memory.old.guest) }
+    requires runs { guest.old.mode ≡ Mode.Runs }
+    requires none_rose { rises_of board.old ≡ 0 }
+    ensures outcome { instruction_of now (bare_with memory.old registers.old (com1_of board.old) guest.old) ≡ Done (bare_with memory.new registers.new (com1_of board.new) guest.new) (listed result) }
+    ensures table { HasTableIn guest.new.soft (length memory.new.guest) }
+    ensures size { length memory.new.guest ≡ length memory.old.guest }
+    ensures real_time { memory.new.real_time ≡ memory.old.real_time }
+    ensures none_rose { rises_of board.new ≡ 0 }
+{
+    match perform(memory, registers, board, &mut guest.pending) {
+        GuestUnit::Next => {
+            guest.soft.unit_done();
+            None
+        }
+        GuestUnit::Enter(vector, push) => {
+            Some(enter_vector(vector, push, memory, registers, guest))
+        }
+        GuestUnit::Gate(number, next) => {
+            perform_gate(number, next, now, memory, registers, guest)
+        }
+        GuestUnit::Breach(breach) => {
+            guest.mode = Mode::Stopped;
+            Some(GLine::Breach(breach_kind(breach)))
+        }
+    }
+}
+
+// The line that is to be entered: the lowest that is asked and enabled, where the flag is set and no shadow stands.
+fn line_to_enter(guest: &Guest) -> Option<u8>
+    ensures line { result ≡ (if is_open guest.now.soft then lowest_enabled guest.now.pending guest.now.soft.mask else None) }
+    ensures below { IfSome result (λ n. n < 32) }
+{
+    if guest.soft.may_enter() {
+        guest.pending.lowest(guest.soft.mask)
+    } else {
+        None
+    }
+}
+
+/// The guest's unit in tick `now`, with its line, if it has one. Where the guest is stopped, nothing happens. Else an asked line that may
+/// be entered goes first. Else, where the guest is halted, nothing happens.
 #[tactic(auto, unfolding(bare_machine::specs::Unit::guest_unit))]
 pub fn guest_unit(
     now: u32,
     memory: &mut FlatMemory,
     registers: &mut Registers,
-    soft: &mut SoftFlags,
-    mode: &mut Mode,
-    lines: &mut Lines,
-)
-    requires empty { lines.old.g ≡ [] }
+    board: &mut Board,
+    guest: &mut Guest,
+) -> Option<GLine>
     requires size { length memory.old.guest < 2 ^ 32 }
-    requires table { HasTableIn soft.old (length memory.old.guest) }
-    ensures outcome { outcome_with memory.new registers.new soft.new mode.new lines.new.g ≡ guest_unit_of now (bare_with memory.old registers.old soft.old mode.old) }
-    ensures table { HasTableIn soft.new (length memory.new.guest) }
+    requires table { HasTableIn guest.old.soft (length memory.old.guest) }
+    requires none_rose { rises_of board.old ≡ 0 }
+    ensures outcome { guest_unit_of now (bare_with memory.old registers.old (com1_of board.old) guest.old) ≡ Done (bare_with memory.new registers.new (com1_of board.new) guest.new) (listed result) }
+    ensures table { HasTableIn guest.new.soft (length memory.new.guest) }
     ensures size { length memory.new.guest ≡ length memory.old.guest }
     ensures real_time { memory.new.real_time ≡ memory.old.real_time }
-    ensures r_lines { lines.new.r ≡ lines.old.r }
-    ensures h_lines { lines.new.h ≡ lines.old.h }
+    ensures none_rose { rises_of board.new ≡ 0 }
 {
-    if *mode != Mode::Runs {
-        return;
+    if guest.mode == Mode::Stopped {
+        return None;
     }
-    match perform(memory, registers) {
-        GuestUnit::Next => soft.unit_done(),
-        GuestUnit::Enter(vector, push) => {
-            *mode = enter_vector(vector, push, memory, registers, soft, lines);
-        }
-        GuestUnit::Gate(number, next) => {
-            *mode = perform_gate(number, next, now, memory, registers, soft, lines);
-        }
-        GuestUnit::Breach(breach) => {
-            *mode = Mode::Stopped;
-            lines.push_g(GLine::Breach(breach_kind(breach)));
-        }
+    if let Some(line) = line_to_enter(guest) {
+        return Some(enter_line(line, memory, registers, guest));
+    }
+    if guest.mode == Mode::Halted {
+        return None;
+    }
+    instruction(now, memory, registers, board, guest)
+}
+
+/// Appends the line of a unit, if it has one.
+pub fn push_line(line: Option<GLine>, lines: &mut Lines)
+    requires { length lines.old.g ≤ 7 }
+    ensures { lines.new ≡ record lines.old { g = lines.old.g ++ listed line } }
+{
+    if let Some(line) = line {
+        lines.push_g(line);
     }
 }

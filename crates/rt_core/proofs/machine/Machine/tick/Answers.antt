@@ -1,0 +1,43 @@
+use Rattle.std.proofs.Common.{◌≡◌, ◌+◌, ◌∙◌, sym, ap, arith, drop, take}
+use Rattle.run_lines.specs.Says.{sight_from}
+use Rattle.run_lines.specs.Ticks.{at_tick}
+use Rattle.machine_parts.specs.SerialLine.{sampled, all_received, ticked}
+use Rattle.machine_parts.specs.Script.{com1_bytes}
+use Rattle.rt_core.specs.Machine.{bare_with, com1_of, listed}
+use Rattle.rt_core.specs.Pick.{guest_picked}
+use Rattle.rt_core.proofs.Ticks.{IsTick, picked, prepares, is_tick}
+use Rattle.rt_core.proofs.machine.Machine.tick.Goals as goal
+
+pub take_events-count-requires-clause-coming : goal.take_events-count-requires-clause-coming
+take_events-count-requires-clause-coming c = rw c.as_slice.ensures c.self.invariant.5
+
+pub invariant_of-self : goal.invariant_of-self
+invariant_of-self c =
+    let few = rw (← c.self.view_is) at c.requires in (
+      omega (arith, few),
+      rw c.guest_unit-line.ensures.size c.self.invariant.1,
+      c.guest_unit-line.ensures.table,
+      c.guest_unit-line.ensures.none_rose,
+      rw c.as_slice.ensures at c.take_events-count.ensures.place,
+      rw c.as_slice.ensures at c.take_events-count.ensures.coming,
+    )
+
+-- the machine's tick is the bare machine's
+the_tick : (c : goal.After-timer) → let m = c.self.inside in IsTick (m.ticks + 1) (at_tick (m.ticks + 1) (drop m.next m.script.events)) (sight_from m.on 0 (guest_picked m.on))
+    (bare_with m.memory m.registers (com1_of m.board) m.guest)
+    (bare_with c.guest_unit-line.new.memory c.guest_unit-line.new.registers (com1_of c.guest_unit-line.new.board) c.guest_unit-line.new.guest) (listed c.guest_unit-line.result)
+the_tick c =
+    let m = c.self.inside in
+    let t = m.ticks + 1 in
+    let events = drop m.next m.script.events in
+    let same : take c.take_events-count.result c.take_events-count.new.into ≡ at_tick t events = c.take_events-count.ensures.events ∙ ap (λ es. at_tick t (drop m.next es)) c.as_slice.ensures in
+    let begun = prepares t (at_tick t events) m.memory m.registers (com1_of m.board) (com1_of c.devices.new.board) m.guest c.devices.new.pending
+    (c.devices.ensures.com1 ∙ ap (λ es. sampled (all_received (com1_bytes es) (ticked (com1_of m.board)))) same)
+    (rw (sym same) c.devices.ensures.asked) in
+    is_tick t (at_tick t events) (sight_from m.on 0 (guest_picked m.on)) (bare_with m.memory m.registers (com1_of m.board) m.guest) _ _ (listed c.guest_unit-line.result) (picked m.on) begun c.guest_unit-line.ensures.outcome
+
+pub returns-clause-guest : goal.returns-clause-guest
+returns-clause-guest c = rw (← c.self.view_is, c.push_line.ensures, c.pick.ensures.lines) (the_tick c).state
+
+pub returns-clause-guest_lines : goal.returns-clause-guest_lines
+returns-clause-guest_lines c = rw (← c.self.view_is, c.push_line.ensures, c.pick.ensures.lines, c.devices.ensures.lines) (the_tick c).lines
