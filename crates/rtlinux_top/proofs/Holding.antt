@@ -1,13 +1,13 @@
 -- The guest holds the processor from tick 1 on.
-use Rattle.std.proofs.Common.{◌≡◌, ℕ, zero, suc, ◌+◌, List, [], ◌∷◌, refl, ap, sym, ◌∙◌, arith, Option, Some, None, add-one}
+use Rattle.std.proofs.Common.{◌≡◌, ℕ, zero, suc, ◌+◌, List, [], ◌∷◌, refl, ap, sym, ◌∙◌, arith, Option, Some, add-one}
 use Rattle.std.proofs.lemmas.Bool.Decides.{nat_tests}
 use Rattle.std.specs.Prelude.{fold, ◌==◌, false, true, Bool, if◌then◌else◌}
-use Rattle.run_lines.specs.Holder.{holder, held_by}
+use Rattle.run_lines.specs.Says.{holder, held_by, held, after_owner}
 use Rattle.run_lines.specs.Ticks.{at_tick}
-use Rattle.trace_lines.specs.declared.lines.RLine.{RLine}
-use Rattle.trace_lines.specs.declared.lines.RLine.TheVariants.{On}
-use Rattle.trace_lines.specs.declared.lines.Who.{Who}
-use Rattle.trace_lines.specs.declared.lines.Who.TheVariants.{Guest}
+use Rattle.line_kinds.specs.declared.kinds.RLine.{RLine}
+use Rattle.line_kinds.specs.declared.kinds.RLine.TheVariants.{On}
+use Rattle.line_kinds.specs.declared.kinds.Who.{Who}
+use Rattle.line_kinds.specs.declared.kinds.Who.TheVariants.{Guest}
 use Rattle.rt_core.specs.Pick.{guest_picked}
 use Rattle.rtlinux_top.specs.Lines.{guest_on}
 
@@ -34,3 +34,10 @@ pub holder_next : (t : ℕ) (on next : Option Who) (lines : List RLine) → on �
 unfolding holder
 holder_next t on next lines held said moved =
     rw add-one (moved ∙ ap (λ (ls : List RLine). fold held_by on ls) (said ∙ ap guest_picked held ∙ picked_at t) ∙ ap (λ (who : Option Who). fold held_by who (at_tick (suc t) guest_on)) held)
+
+-- and no module holds a line
+pub held_none : (t : ℕ) → held t guest_on ≡ 0
+unfolding held
+held_none zero = refl
+held_none (suc zero) = refl
+held_none (suc (suc t)) = ap (λ (lines : List RLine). fold after_owner (held (suc t) guest_on) lines) (later t) ∙ held_none (suc t)

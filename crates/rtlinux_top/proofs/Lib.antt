@@ -1,5 +1,12 @@
 pub mod Written
-pub mod Streams
 pub mod Holding
 pub mod Ran
+pub mod Streams
 pub mod Parts
+pub mod Lines
+pub mod Sight
+pub mod Silence
+pub mod Idle
+pub mod Quiet
+pub mod Shown
+pub mod Headline

@@ -1,37 +1,100 @@
 -- A machine that ran so many ticks.
-use Rattle.std.proofs.Common.{◌≡◌, ℕ, suc, ◌+◌, List, refl, ap, sym, ◌∙◌, arith, Option, None, Bool, true, add-one}
-use Rattle.std.specs.Prelude.{fold, Some}
-use Rattle.trace_lines.specs.declared.lines.GLine.{GLine}
-use Rattle.trace_lines.specs.declared.lines.RLine.{RLine}
-use Rattle.trace_lines.specs.declared.lines.Who.{Who}
-use Rattle.run_lines.specs.Holder.{holder, held_by, is_guest}
-use Rattle.bare_machine.specs.State.{Bare, Outcome}
-use Rattle.bare_machine.specs.Run.{bare_after, bare_lines, bare_tick}
-use Rattle.rt_core.specs.Machine.{MachineParts, bare_of, outcome_with}
+use Rattle.std.proofs.Common.{◌≡◌, ℕ, suc, ◌+◌, List, [], ◌∷◌, refl, ap, sym, ◌∙◌, arith, None, true, add-one}
+use Rattle.std.specs.Prelude.{fold, IfOk, Result, Ok, Err}
+use Rattle.outside_io.specs.declared.NoMemory.{NoMemory}
+use Rattle.flat_memory.specs.Parts.{Parts}
+use Rattle.bare_machine.specs.State.{first_state}
+use Rattle.rtlinux_top.specs.Run.{guest_start}
+use Rattle.std.specs.List.{list_all}
+use Rattle.std.proofs.lemmas.Bool.Decides.{nat_tests}
+use Rattle.device_script.specs.Event.{Events, IsScript, is_event}
+use Rattle.device_script.specs.declared.event.Event.{Event}
+use Rattle.line_kinds.specs.declared.kinds.GLine.{GLine}
+use Rattle.line_kinds.specs.declared.kinds.RLine.{RLine}
+use Rattle.run_files.specs.declared.run.AcceptedRun.{AcceptedRun}
+use Rattle.run_lines.specs.Says.{Sight, holder, held_by, sight, sight_from}
+use Rattle.run_lines.specs.Ticks.{at_tick}
+use Rattle.bare_machine.specs.State.{Bare}
+use Rattle.bare_machine.specs.Run.{bare_after, bare_lines}
+use Rattle.bare_machine.specs.Tick.{bare_tick, bare_tick_lines}
+use Rattle.rt_core.specs.Coming.{above}
+use Rattle.rt_core.specs.Machine.{MachineParts, bare_of}
 use Rattle.rt_core.specs.Pick.{guest_picked}
-use Rattle.rtlinux_top.specs.Last.{HasRunFrom}
-use Rattle.rtlinux_top.specs.Lines.{guest_on}
-use Rattle.rtlinux_top.proofs.Holding.{holder_next}
+use Rattle.rtlinux_top.specs.Last.{HasRunTo}
+use Rattle.rtlinux_top.specs.Lines.{guest_on, guest_lines}
+use Rattle.rtlinux_top.proofs.Holding.{holder_next, picked_at, held_none}
 
-pub ran_none : (m : MachineParts) → m.ticks ≡ 0 → m.on ≡ None → HasRunFrom (bare_of m) 0 m
-unfolding bare_after holder
-ran_none m first nobody = record { bare = refl; on = nobody; ticks = first }
+-- before the first tick, all events of a script are to come
+pub all_come : (events : Events) → list_all is_event events ≡ true → above 0 events ≡ events
+all_come [] good = refl
+all_come (e ∷ es) good = let rest = all_come es in grind (arith, nat_tests)
 
--- the tick after t ticks is that of the bare machine
-same_tick : (b : Bare) (t : ℕ) (old new : MachineParts) (g : List GLine) (r : List RLine) → HasRunFrom b t old → outcome_with new.memory new.registers new.soft new.mode g ≡ bare_tick (old.ticks + 1) (is_guest new.on) (bare_of old) → new.on ≡ fold held_by old.on r → r ≡ guest_picked old.on → outcome_with new.memory new.registers new.soft new.mode g ≡ bare_tick (t + 1) (is_guest (holder (t + 1) guest_on)) (bare_after b guest_on t)
-same_tick b t old new g r before moved held picked =
-    moved ∙ ap (λ (n : ℕ). bare_tick (n + 1) (is_guest new.on) (bare_of old)) before.ticks
-    ∙ ap (λ (who : Option Who). bare_tick (t + 1) (is_guest who) (bare_of old)) (holder_next t old.on new.on r before.on picked held)
-    ∙ ap (λ (s : Bare). bare_tick (t + 1) (is_guest (holder (t + 1) guest_on)) s) before.bare
+-- those of a tick, and those of later ticks, are among the events to come before it
+at_next : (t : ℕ) (events : Events) → at_tick (t + 1) (above t events) ≡ at_tick (t + 1) events
+at_next t [] = refl
+at_next t (e ∷ es) = let rest = at_next t es in grind (arith, nat_tests)
 
-pub ran_next : (b : Bare) (t : ℕ) (old new : MachineParts) (g : List GLine) (r : List RLine) → HasRunFrom b t old → outcome_with new.memory new.registers new.soft new.mode g ≡ bare_tick (old.ticks + 1) (is_guest new.on) (bare_of old) → new.on ≡ fold held_by old.on r → r ≡ guest_picked old.on → new.ticks ≡ old.ticks + 1 → HasRunFrom b (t + 1) new
+above_next : (t : ℕ) (events : Events) → above (t + 1) (above t events) ≡ above (t + 1) events
+above_next t [] = refl
+above_next t (e ∷ es) = let rest = above_next t es in grind (arith, nat_tests)
+
+-- what a tick of the machine gives, by its contract
+pub record Ticked (old new : MachineParts) (r : List RLine) (g : List GLine) : Type 0 where
+  pub guest : bare_of new ≡ bare_tick (old.ticks + 1) (at_tick (old.ticks + 1) old.coming) (sight_from old.on 0 r) (bare_of old)
+  pub guest_lines : g ≡ bare_tick_lines (old.ticks + 1) (at_tick (old.ticks + 1) old.coming) (sight_from old.on 0 r) (bare_of old)
+  pub holder : new.on ≡ fold held_by old.on r
+  pub picked : r ≡ guest_picked old.on
+  pub coming : new.coming ≡ above (old.ticks + 1) old.coming
+  pub real_time : new.memory.real_time ≡ old.memory.real_time
+  pub ticks : new.ticks ≡ old.ticks + 1
+
+-- what it does after t ticks of a run
+pub said_r : (run : AcceptedRun) (t : ℕ) (old new : MachineParts) (r : List RLine) (g : List GLine) → HasRunTo run t old → Ticked old new r g → r ≡ at_tick (suc t) guest_on
+said_r run t old new r g before tick = tick.picked ∙ ap guest_picked before.on ∙ picked_at t
+
+same_events : (run : AcceptedRun) (t : ℕ) (old : MachineParts) → HasRunTo run t old → at_tick (old.ticks + 1) old.coming ≡ at_tick (suc t) run.script.events
+same_events run t old before =
+    ap (λ n. at_tick (n + 1) old.coming) before.ticks ∙ ap (at_tick (t + 1)) before.coming ∙ at_next t run.script.events ∙ ap (λ n. at_tick n run.script.events) (add-one t)
+
+same_sight : (run : AcceptedRun) (t : ℕ) (old new : MachineParts) (r : List RLine) (g : List GLine) → HasRunTo run t old → Ticked old new r g → sight_from old.on 0 r ≡ sight t guest_on
+same_sight run t old new r g before tick =
+    ap (λ who. sight_from who 0 r) before.on ∙ ap (λ lines. sight_from (holder t guest_on) lines r) (sym (held_none t))
+    ∙ ap (sight_from (holder t guest_on) _) (said_r run t old new r g before tick)
+
+same_count : (run : AcceptedRun) (t : ℕ) (old : MachineParts) → HasRunTo run t old → old.ticks + 1 ≡ suc t
+same_count run t old before = ap (λ n. n + 1) before.ticks ∙ add-one t
+
+same_tick : {t t' : ℕ} {e e' : List Event} {s s' : Sight} {b b' : Bare} → t ≡ t' → e ≡ e' → s ≡ s' → b ≡ b' → bare_tick t e s b ≡ bare_tick t' e' s' b'
+same_tick t e s b = λ i. bare_tick (t i) (e i) (s i) (b i)
+
+same_tick_lines : {t t' : ℕ} {e e' : List Event} {s s' : Sight} {b b' : Bare} → t ≡ t' → e ≡ e' → s ≡ s' → b ≡ b' → bare_tick_lines t e s b ≡ bare_tick_lines t' e' s' b'
+same_tick_lines t e s b = λ i. bare_tick_lines (t i) (e i) (s i) (b i)
+
+pub ran_next : (run : AcceptedRun) (t : ℕ) (old new : MachineParts) (r : List RLine) (g : List GLine) → HasRunTo run t old → Ticked old new r g → HasRunTo run (t + 1) new
 unfolding bare_after
-ran_next b t old new g r before moved held picked counted = record {
-  bare = rw add-one (ap (λ (o : Outcome). o.after) (rw add-one at (same_tick b t old new g r before moved held picked)));
-  on = holder_next t old.on new.on r before.on picked held;
-  ticks = counted ∙ ap (λ (n : ℕ). n + 1) before.ticks;
+ran_next run t old new r g before tick = record {
+  bare = rw (add-one t) (tick.guest ∙ same_tick (same_count run t old before) (same_events run t old before) (same_sight run t old new r g before tick) before.bare);
+  on = holder_next t old.on new.on r before.on tick.picked tick.holder;
+  coming = tick.coming ∙ ap (λ n. above (n + 1) old.coming) before.ticks ∙ ap (above (t + 1)) before.coming ∙ above_next t run.script.events;
+  real_time = tick.real_time ∙ before.real_time;
+  ticks = tick.ticks ∙ ap (λ n. n + 1) before.ticks;
 }
 
-pub said_next : (b : Bare) (t : ℕ) (old new : MachineParts) (g : List GLine) (r : List RLine) → HasRunFrom b t old → outcome_with new.memory new.registers new.soft new.mode g ≡ bare_tick (old.ticks + 1) (is_guest new.on) (bare_of old) → new.on ≡ fold held_by old.on r → r ≡ guest_picked old.on → g ≡ bare_lines b guest_on t
+pub said_g : (run : AcceptedRun) (t : ℕ) (old new : MachineParts) (r : List RLine) (g : List GLine) → HasRunTo run t old → Ticked old new r g → g ≡ guest_lines run t
 unfolding bare_lines
-said_next b t old new g r before moved held picked = ap (λ (o : Outcome). o.lines) (rw add-one at (same_tick b t old new g r before moved held picked))
+said_g run t old new r g before tick =
+    tick.guest_lines ∙ same_tick_lines (same_count run t old before) (same_events run t old before) (same_sight run t old new r g before tick) before.bare
+
+-- a machine that was booted ran no tick
+pub booted : (run : AcceptedRun) (m : Result MachineParts NoMemory) → IsScript run.script.events
+    → IfOk m (λ m. bare_of m ≡ first_state (guest_start run)) → IfOk m (λ m. m.memory ≡ run.sides.memory) → IfOk m (λ m. m.on ≡ None)
+    → IfOk m (λ m. m.coming ≡ run.script.events) → IfOk m (λ m. m.ticks ≡ 0) → IfOk m (λ m. HasRunTo run 0 m)
+unfolding bare_after holder
+booted run (Ok m) script guest memory on coming ticks = record {
+  bare = guest;
+  on = on;
+  coming = coming ∙ sym (all_come run.script.events script.good);
+  real_time = ap (λ (p : Parts). p.real_time) memory;
+  ticks = ticks;
+}
+booted run (Err e) script guest memory on coming ticks = tt

@@ -2,86 +2,152 @@
 use Rattle.std.proofs.Common.{◌≡◌, ℕ, suc, ◌+◌, ◌-◌, ◌<◌, List, [], ◌∷◌, ◌++◌, ap, sym, ◌∙◌, refl, arith, append_assoc, add-one, Option, Bool, true, false}
 use Rattle.std.proofs.lemmas.Grind.{flat_map-append}
 use Rattle.std.proofs.lemmas.List.Folds.{list_any-append}
-use Rattle.std.specs.Prelude.{◌||◌}
+use Rattle.std.specs.Prelude.{◌||◌, map, take, flat_map, if◌then◌else◌}
 use Rattle.std.specs.List.{list_any}
 use Rattle.outside_io.specs.Sink.{appended}
-use Rattle.run_lines.specs.Ticks.{stamped, lines_to, IsPrefixOf}
+use Rattle.line_kinds.specs.declared.kinds.GLine.{GLine}
+use Rattle.line_kinds.specs.declared.kinds.RLine.{RLine}
+use Rattle.run_lines.specs.Ticks.{at_tick, stamped, lines_to, IsPrefixOf}
 use Rattle.run_lines.proofs.Longer.{longer}
-use Rattle.trace_lines.specs.declared.lines.GLine.{GLine}
+use Rattle.run_output.specs.Merge.{AnyLine, R, G}
+use Rattle.run_files.specs.declared.run.AcceptedRun.{AcceptedRun}
 use Rattle.bare_machine.specs.State.{Bare}
-use Rattle.bare_machine.specs.Run.{bare_after, bare_lines, bare_run, end_line}
-use Rattle.rtlinux_top.specs.Lines.{guest_on, lines_from, text_of, tick_text, piece_of, has_breach, is_breach}
+use Rattle.bare_machine.specs.Run.{bare_end}
+use Rattle.rt_core.specs.End.{quiet_end}
+use Rattle.rt_core.specs.Machine.{MachineParts, bare_of}
+use Rattle.rtlinux_top.specs.Last.{HasRunTo}
+use Rattle.rtlinux_top.specs.Lines.{guest_on, guest_lines, shown, ends_shown, shown_at, shown_to, run_shown, bare_at, text_of, tick_text, piece_of, has_breach, shows_breach, is_breach}
 use Rattle.rtlinux_top.proofs.Written.{appended_twice, appended_nothing}
 
-pub text-stamped : (t : ℕ) (lines : List GLine) → text_of (stamped t lines) ≡ tick_text t lines
+pub text-stamped : (t : ℕ) (lines : List AnyLine) → text_of (stamped t lines) ≡ tick_text t lines
 text-stamped t [] = refl
 text-stamped t (line ∷ lines) = ap (λ (xs : List ℕ). piece_of (t, line) ++ xs) (text-stamped t lines)
 
 -- one tick more
-pub text_next : (b : Bare) (t : ℕ) → text_of (bare_run b guest_on (t + 1)) ≡ text_of (bare_run b guest_on t) ++ tick_text (t + 1) (bare_lines b guest_on t)
+text_next : (both : Bool) (run : AcceptedRun) (t : ℕ) → text_of (shown_to both run (t + 1)) ≡ text_of (shown_to both run t) ++ tick_text (t + 1) (shown_at both run t)
 unfolding lines_to
-text_next b t =
-    rw add-one (flat_map-append piece_of (bare_run b guest_on t) (stamped (suc t) (bare_lines b guest_on t)) ∙ ap (λ (xs : List ℕ). text_of (bare_run b guest_on t) ++ xs) (text-stamped (suc t) (bare_lines b guest_on t)))
+text_next both run t =
+    rw add-one (flat_map-append piece_of (shown_to both run t) (stamped (suc t) (shown_at both run t)) ∙ ap (λ (xs : List ℕ). text_of (shown_to both run t) ++ xs) (text-stamped (suc t) (shown_at both run t)))
 
-pub told_next : (old mid new : Option (List ℕ)) (b : Bare) (t : ℕ) (said : List GLine) → said ≡ bare_lines b guest_on t → mid ≡ appended old (text_of (bare_run b guest_on t)) → new ≡ appended mid (tick_text (t + 1) said) → new ≡ appended old (text_of (bare_run b guest_on (t + 1)))
-told_next old mid new b t said same before after =
-    after ∙ ap (λ w. appended w (tick_text (t + 1) said)) before ∙ appended_twice old (text_of (bare_run b guest_on t)) (tick_text (t + 1) said)
-    ∙ ap (λ (ls : List GLine). appended old (text_of (bare_run b guest_on t) ++ tick_text (t + 1) ls)) same ∙ ap (appended old) (sym (text_next b t))
+pub shown_same : (both : Bool) (run : AcceptedRun) (t : ℕ) (r : List RLine) (g : List GLine) → r ≡ at_tick (suc t) guest_on → g ≡ guest_lines run t → shown both r g ≡ shown_at both run t
+unfolding shown_at
+shown_same both run t r g real guest = rw (real, guest) refl
+
+pub told_next : (old mid new : Option (List ℕ)) (both : Bool) (run : AcceptedRun) (t : ℕ) (said : List AnyLine) → said ≡ shown_at both run t → mid ≡ appended old (text_of (shown_to both run t)) → new ≡ appended mid (tick_text (t + 1) said) → new ≡ appended old (text_of (shown_to both run (t + 1)))
+told_next old mid new both run t said same before after =
+    after ∙ ap (λ w. appended w (tick_text (t + 1) said)) before ∙ appended_twice old (text_of (shown_to both run t)) (tick_text (t + 1) said)
+    ∙ ap (λ (ls : List AnyLine). appended old (text_of (shown_to both run t) ++ tick_text (t + 1) ls)) same ∙ ap (appended old) (sym (text_next both run t))
+
+-- the end lines of a run
+abbrev pub ends_of : Bool → AcceptedRun → ℕ → List AnyLine
+ends_of both run n = ends_shown both run.sides.memory.real_time (bare_at run n)
 
 -- the text of a run around one tick
-pub whole_at : (b : Bare) (t n : ℕ) (said : List GLine) → t < n → said ≡ bare_lines b guest_on t → (rest : List ℕ) × (text_of (lines_from b n) ≡ text_of (bare_run b guest_on t) ++ (tick_text (t + 1) said ++ rest))
-whole_at b t n said below same =
+pub whole_at : (both : Bool) (run : AcceptedRun) (t : ℕ) (said : List AnyLine) → t < run.ticks → said ≡ shown_at both run t → (rest : List ℕ) × (text_of (run_shown both run) ≡ text_of (shown_to both run t) ++ (tick_text (t + 1) said ++ rest))
+whole_at both run t said below same =
+    let n : ℕ = run.ticks in
     let m : ℕ = n - (t + 1) in
     let long : (t + 1) + m ≡ n = omega arith in
-    let go : IsPrefixOf (bare_run b guest_on (t + 1)) (bare_run b guest_on ((t + 1) + m)) = longer (bare_lines b guest_on) (t + 1) m in
-    let last : List (ℕ × GLine) = (n, end_line (bare_after b guest_on n)) ∷ [] in
+    let go : IsPrefixOf (shown_to both run (t + 1)) (shown_to both run ((t + 1) + m)) = longer (shown_at both run) (t + 1) m in
+    let last : List (ℕ × AnyLine) = stamped n (ends_of both run n) in
     let mine : List ℕ = tick_text (t + 1) said in
-    let step : text_of (bare_run b guest_on (t + 1)) ≡ text_of (bare_run b guest_on t) ++ mine
-    = text_next b t ∙ ap (λ (ls : List GLine). text_of (bare_run b guest_on t) ++ tick_text (t + 1) ls) (sym same) in
-    let upto : text_of (bare_run b guest_on n) ≡ (text_of (bare_run b guest_on t) ++ mine) ++ text_of go.0
-    = ap (λ (k : ℕ). text_of (bare_run b guest_on k)) (sym long) ∙ ap text_of (sym go.1) ∙ flat_map-append piece_of (bare_run b guest_on (t + 1)) go.0 ∙ ap (λ xs. xs ++ text_of go.0) step in (
+    let step : text_of (shown_to both run (t + 1)) ≡ text_of (shown_to both run t) ++ mine
+    = text_next both run t ∙ ap (λ (ls : List AnyLine). text_of (shown_to both run t) ++ tick_text (t + 1) ls) (sym same) in
+    let upto : text_of (shown_to both run n) ≡ (text_of (shown_to both run t) ++ mine) ++ text_of go.0
+    = ap (λ (k : ℕ). text_of (shown_to both run k)) (sym long) ∙ ap text_of (sym go.1) ∙ flat_map-append piece_of (shown_to both run (t + 1)) go.0 ∙ ap (λ xs. xs ++ text_of go.0) step in (
       text_of go.0 ++ text_of last,
-      flat_map-append piece_of (bare_run b guest_on n) last ∙ ap (λ xs. xs ++ text_of last) upto
-          ∙ append_assoc (text_of (bare_run b guest_on t) ++ mine) (text_of go.0) (text_of last) ∙ append_assoc (text_of (bare_run b guest_on t)) mine (text_of go.0 ++ text_of last),
+      flat_map-append piece_of (shown_to both run n) last ∙ ap (λ xs. xs ++ text_of last) upto
+          ∙ append_assoc (text_of (shown_to both run t) ++ mine) (text_of go.0) (text_of last) ∙ append_assoc (text_of (shown_to both run t)) mine (text_of go.0 ++ text_of last),
     )
 
--- the text of a run before its end line
-pub whole_end : (b : Bare) (n t : ℕ) (line : GLine) → t ≡ n → line ≡ end_line (bare_after b guest_on t) → text_of (lines_from b n) ≡ text_of (bare_run b guest_on t) ++ (piece_of (n, line) ++ [])
-whole_end b n t line done told =
-    flat_map-append piece_of (bare_run b guest_on n) ((n, end_line (bare_after b guest_on n)) ∷ [])
-    ∙ ap (λ (s : ℕ). text_of (bare_run b guest_on s) ++ (piece_of (n, end_line (bare_after b guest_on s)) ++ [])) (sym done)
-    ∙ ap (λ (l : GLine). text_of (bare_run b guest_on t) ++ (piece_of (n, l) ++ [])) (sym told)
+-- the text of a run before its end lines
+pub whole_end : (both : Bool) (run : AcceptedRun) (t : ℕ) (said : List AnyLine) → t ≡ run.ticks → said ≡ ends_of both run t → text_of (run_shown both run) ≡ text_of (shown_to both run t) ++ tick_text run.ticks said
+whole_end both run t said done told =
+    let n : ℕ = run.ticks in
+    flat_map-append piece_of (shown_to both run n) (stamped n (ends_of both run n))
+    ∙ ap (λ (xs : List ℕ). text_of (shown_to both run n) ++ xs) (text-stamped n (ends_of both run n))
+    ∙ ap (λ (s : ℕ). text_of (shown_to both run s) ++ tick_text n (ends_of both run s)) (sym done)
+    ∙ ap (λ (ls : List AnyLine). text_of (shown_to both run t) ++ tick_text n ls) (sym told)
 
 -- whether a breach is among the lines
-any-append : (xs ys : List (ℕ × GLine)) → has_breach (xs ++ ys) ≡ (has_breach xs || has_breach ys)
-any-append xs ys = list_any-append (λ (line : ℕ × GLine). is_breach line.1) xs ys
+any-append : (xs ys : List (ℕ × AnyLine)) → has_breach (xs ++ ys) ≡ (has_breach xs || has_breach ys)
+any-append xs ys = list_any-append (λ (line : ℕ × AnyLine). shows_breach line.1) xs ys
 
-breach-stamped : (t : ℕ) (lines : List GLine) → has_breach (stamped t lines) ≡ list_any is_breach lines
+breach-stamped : (t : ℕ) (lines : List AnyLine) → has_breach (stamped t lines) ≡ list_any shows_breach lines
 breach-stamped t [] = refl
-breach-stamped t (line ∷ lines) = ap (λ (b : Bool). is_breach line || b) (breach-stamped t lines)
+breach-stamped t (line ∷ lines) = ap (λ (b : Bool). shows_breach line || b) (breach-stamped t lines)
 
-pub breach_next : (b : Bare) (t : ℕ) (said : List GLine) (before now : Bool) → said ≡ bare_lines b guest_on t → before ≡ has_breach (bare_run b guest_on t) → now ≡ (before || list_any is_breach said) → now ≡ has_breach (bare_run b guest_on (t + 1))
+breach-guest : (lines : List GLine) → list_any shows_breach (map G lines) ≡ list_any is_breach lines
+breach-guest [] = refl
+breach-guest (line ∷ lines) = ap (λ (b : Bool). is_breach line || b) (breach-guest lines)
+
+breach-real : (lines : List RLine) (others : List AnyLine) → list_any shows_breach (map R lines ++ others) ≡ list_any shows_breach others
+breach-real [] others = refl
+breach-real (line ∷ lines) others = breach-real lines others
+
+breach-shown : (both : Bool) (r : List RLine) (g : List GLine) → list_any shows_breach (shown both r g) ≡ list_any is_breach g
+breach-shown true r g = breach-real r (map G g) ∙ breach-guest g
+breach-shown false r g = breach-guest g
+
+pub breach_next : (both : Bool) (run : AcceptedRun) (t : ℕ) (r : List RLine) (g : List GLine) (before now : Bool) → shown both r g ≡ shown_at both run t → before ≡ has_breach (shown_to both run t) → now ≡ (before || list_any is_breach g) → now ≡ has_breach (shown_to both run (t + 1))
 unfolding lines_to
-breach_next b t said before now same so_far found =
-    rw add-one (found ∙ ap (λ (x : Bool). x || list_any is_breach said) so_far ∙ ap (λ (ls : List GLine). has_breach (bare_run b guest_on t) || list_any is_breach ls) same
-    ∙ ap (λ (x : Bool). has_breach (bare_run b guest_on t) || x) (sym (breach-stamped (suc t) (bare_lines b guest_on t))) ∙ sym (any-append (bare_run b guest_on t) (stamped (suc t) (bare_lines b guest_on t))))
+breach_next both run t r g before now same so_far found =
+    rw add-one (found ∙ ap (λ (x : Bool). x || list_any is_breach g) so_far
+    ∙ ap (λ (x : Bool). has_breach (shown_to both run t) || x) (sym (breach-shown both r g) ∙ ap (list_any shows_breach) same ∙ sym (breach-stamped (suc t) (shown_at both run t)))
+    ∙ sym (any-append (shown_to both run t) (stamped (suc t) (shown_at both run t))))
 
-no_end : (found : Bool) → found ≡ (found || (false || false))
-no_end true = refl
-no_end false = refl
+-- no end line is one
+no_breach : (both : Bool) (bytes : List ℕ) (b : Bare) → list_any shows_breach (ends_shown both bytes b) ≡ false
+no_breach true bytes b = refl
+no_breach false bytes b = refl
 
--- an end line is no breach
-pub breach_end : (b : Bare) (n t : ℕ) → t ≡ n → has_breach (bare_run b guest_on t) ≡ has_breach (lines_from b n)
-breach_end b n t done =
-    ap (λ (k : ℕ). has_breach (bare_run b guest_on k)) done ∙ no_end (has_breach (bare_run b guest_on n)) ∙ sym (any-append (bare_run b guest_on n) ((n, end_line (bare_after b guest_on n)) ∷ []))
+or_none : (found other : Bool) → other ≡ false → found ≡ (found || other)
+or_none true other none = refl
+or_none false other none = sym none
+
+pub breach_end : (both : Bool) (run : AcceptedRun) (t : ℕ) → t ≡ run.ticks → has_breach (shown_to both run t) ≡ has_breach (run_shown both run)
+breach_end both run t done =
+    let n : ℕ = run.ticks in
+    ap (λ (k : ℕ). has_breach (shown_to both run k)) done
+    ∙ or_none (has_breach (shown_to both run n)) (has_breach (stamped n (ends_of both run n))) (breach-stamped n (ends_of both run n) ∙ no_breach both run.sides.memory.real_time (bare_at run n))
+    ∙ sym (any-append (shown_to both run n) (stamped n (ends_of both run n)))
 
 -- before the first tick nothing was said
-pub nothing_said : (b : Bare) → bare_run b guest_on 0 ≡ []
+nothing_said : (both : Bool) (run : AcceptedRun) → shown_to both run 0 ≡ []
 unfolding lines_to
-nothing_said b = refl
+nothing_said both run = refl
 
-pub told_first : (old : Option (List ℕ)) (b : Bare) → old ≡ appended old (text_of (bare_run b guest_on 0))
-told_first old b = appended_nothing old ∙ ap (λ (lines : List (ℕ × GLine)). appended old (text_of lines)) (sym (nothing_said b))
+pub told_first : (old : Option (List ℕ)) (both : Bool) (run : AcceptedRun) → old ≡ appended old (text_of (shown_to both run 0))
+told_first old both run = appended_nothing old ∙ ap (λ (lines : List (ℕ × AnyLine)). appended old (text_of lines)) (sym (nothing_said both run))
 
-pub breach_first : (b : Bare) → false ≡ has_breach (bare_run b guest_on 0)
-breach_first b = ap has_breach (sym (nothing_said b))
+pub breach_first : (both : Bool) (run : AcceptedRun) → false ≡ has_breach (shown_to both run 0)
+breach_first both run = ap has_breach (sym (nothing_said both run))
+
+-- the text of the lines of each half
+pub text-guest : (t : ℕ) (lines : List GLine) → flat_map (λ line. piece_of (t, G line)) lines ≡ tick_text t (map G lines)
+text-guest t [] = refl
+text-guest t (line ∷ lines) = ap (λ (xs : List ℕ). piece_of (t, G line) ++ xs) (text-guest t lines)
+
+text-real : (t : ℕ) (lines : List RLine) → flat_map (λ line. piece_of (t, R line)) lines ≡ tick_text t (map R lines)
+text-real t [] = refl
+text-real t (line ∷ lines) = ap (λ (xs : List ℕ). piece_of (t, R line) ++ xs) (text-real t lines)
+
+pub text-both : (t : ℕ) (r : List RLine) (g : List GLine) → flat_map (λ line. piece_of (t, R line)) r ++ flat_map (λ line. piece_of (t, G line)) g ≡ tick_text t (map R r ++ map G g)
+text-both t r g =
+    ap (λ xs. xs ++ flat_map (λ line. piece_of (t, G line)) g) (text-real t r) ∙ ap (λ xs. tick_text t (map R r) ++ xs) (text-guest t g)
+    ∙ sym (flat_map-append (λ line. piece_of (t, line)) (map R r) (map G g))
+
+-- the end lines of a machine that ran so many ticks
+pub ends_same : (both : Bool) (run : AcceptedRun) (t : ℕ) (m : MachineParts) (r : List RLine) (g : List GLine) → HasRunTo run t m
+    → r ≡ quiet_end m.memory.real_time → g ≡ bare_end (bare_of m) → (if both then map R r ++ map G g else map G (take 1 g)) ≡ ends_of both run t
+ends_same true run t m r g ran real guest =
+    let real_end : r ≡ quiet_end run.sides.memory.real_time = real ∙ ap quiet_end ran.real_time in
+    let guest_end : g ≡ bare_end (bare_at run t) = guest ∙ ap bare_end ran.bare in
+    λ i. map R (real_end i) ++ map G (guest_end i)
+ends_same false run t m r g ran real guest = ap (λ lines. map G (take 1 lines)) (guest ∙ ap bare_end ran.bare)
+
+pub told_end : (old mid new : Option (List ℕ)) (both : Bool) (run : AcceptedRun) (t : ℕ) (ends : List AnyLine) → t ≡ run.ticks → ends ≡ ends_of both run t
+    → mid ≡ appended old (text_of (shown_to both run t)) → new ≡ appended mid (tick_text run.ticks ends) → new ≡ appended old (text_of (run_shown both run))
+told_end old mid new both run t ends done same before after =
+    after ∙ ap (λ w. appended w (tick_text run.ticks ends)) before ∙ appended_twice old (text_of (shown_to both run t)) (tick_text run.ticks ends)
+    ∙ ap (appended old) (sym (whole_end both run t ends done same))

@@ -1,30 +1,51 @@
 -- When each answer comes, as far as the words alone say it.
-use Rattle.std.specs.Prelude.{◌≡◌, ◌≤◌, ℕ, List, Option, Some, None, length, take}
+use Rattle.std.specs.Prelude.{◌≡◌, ◌≤◌, ℕ, List, Option, Some, None, IfSome, length, take}
+use Rattle.outside_io.specs.Store.{Files}
 use Rattle.outside_io.specs.Sink.{appended}
+use Rattle.command_words.specs.Values.{ticks_of}
+use Rattle.run_files.specs.declared.cause.Cause.{Cause}
+use Rattle.run_files.specs.declared.cause.Cause.TheVariants.{Words, Ticks}
+use Rattle.run_request.specs.Open.{NamesFile}
 use Rattle.rtlinux_top.specs.declared.status.Status.{Status}
 use Rattle.rtlinux_top.specs.declared.status.Status.TheVariants.{Usage}
 use Rattle.rtlinux_top.specs.Verdict.{refused}
-use Rattle.rtlinux_top.specs.Words.{Asked, Unknown, Flat, ticks_of}
+use Rattle.rtlinux_top.specs.Words.{Asked, Unknown, Flat, System}
 
--- the words and the ticks are accepted, for this image
-abbrev pub AcceptsTicks : Asked → List ℕ → Type 0
-AcceptsTicks Unknown name = ⊥
-AcceptsTicks (Flat image word) name = (image ≡ name) × ((n : ℕ) × (ticks_of word ≡ Some n))
+-- the word of the ticks
+abbrev pub ticks_word : Asked → Option (List ℕ)
+ticks_word Unknown = None
+ticks_word (Flat image word) = Some word
+ticks_word (System run) = Some run.ticks
+
+abbrev pub TicksAre : Option ℕ → Option (List ℕ) → Type 0
+TicksAre ticks None = ⊥
+TicksAre ticks (Some word) = ticks_of word ≡ ticks
 
 -- the words and these ticks are accepted
 abbrev pub HasTicks : Asked → ℕ → Type 0
-HasTicks Unknown n = ⊥
-HasTicks (Flat image word) n = ticks_of word ≡ Some n
+HasTicks asked n = TicksAre (Some n) (ticks_word asked)
 
 -- the words are accepted and the ticks are not
 abbrev pub RefusesTicks : Asked → Type 0
-RefusesTicks Unknown = ⊥
-RefusesTicks (Flat image word) = ticks_of word ≡ None
+RefusesTicks asked = TicksAre None (ticks_word asked)
 
--- where the words or the ticks are refused, the answer says so
-abbrev pub RefusedEarly : Asked → Status → Type 0
-RefusedEarly Unknown status = status ≡ Usage
-RefusedEarly (Flat image word) status = ticks_of word ≡ None → status ≡ refused 40
+-- where the words or the ticks are refused, the cause says so
+abbrev pub RefusedEarly : Asked → Cause → Type 0
+RefusedEarly Unknown why = why ≡ Words
+RefusedEarly (Flat image word) why = ticks_of word ≡ None → why ≡ Ticks
+RefusedEarly (System run) why = ticks_of run.ticks ≡ None → why ≡ Ticks
+
+-- and the answer says so too
+abbrev pub AnsweredEarly : Asked → Status → Type 0
+AnsweredEarly Unknown status = status ≡ Usage
+AnsweredEarly (Flat image word) status = ticks_of word ≡ None → status ≡ refused 40 0
+AnsweredEarly (System run) status = ticks_of run.ticks ≡ None → status ≡ refused 40 0
+
+-- the words and the ticks are accepted, and this is the name of a file of the command before which every file is accepted
+abbrev pub NamesFileOf : Asked → Option Files → List ℕ → Type 0
+NamesFileOf Unknown held name = ⊥
+NamesFileOf (Flat image word) held name = ((n : ℕ) × (ticks_of word ≡ Some n)) × (name ≡ image)
+NamesFileOf (System run) held name = ((n : ℕ) × (ticks_of run.ticks ≡ Some n)) × IfSome held (λ files. NamesFile run.system files name)
 
 -- a first part of a text was written
 abbrev pub AppendsPart : Option (List ℕ) → Option (List ℕ) → List ℕ → Type 0

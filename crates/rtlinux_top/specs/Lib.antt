@@ -1,8 +1,10 @@
 pub mod Status
 pub mod Words
-pub mod Lines
 pub mod Verdict
-pub mod Causes
-pub mod Image
+pub mod Lines
+pub mod Run
 pub mod Request
+pub mod Writes
+pub mod Causes
 pub mod Last
+pub mod Solution

@@ -1,41 +1,34 @@
 -- What the words of the command line ask for.
-use Rattle.std.specs.Prelude.{ℕ, List, [], ◌∷◌, length, Bool, ◌&&◌, nat_le, if◌then◌else◌, codes, Option, Some, None, String, string_bytes, map}
-use Rattle.std.specs.Option.{option_and_then}
+use Rattle.std.specs.Prelude.{ℕ, List, [], ◌∷◌, ◌&&◌, if◌then◌else◌, codes, Option, Some, None, String, string_bytes, map}
 use Rattle.std.specs.declared.alloc.Global.{Global}
-use Rattle.std.specs.List.{list_all}
-use Rattle.std.specs.Char.{is_ascii_digit}
 use Rattle.outside_io.specs.Memory.{same_bytes}
-use Rattle.line_text.specs.Numbers.{decimal_in}
+use Rattle.command_words.specs.Run.{AskedRun, run_words_of}
+use Rattle.command_words.specs.Values.{is_name, is_number}
 
--- a name has 1 to 255 bytes
-abbrev pub is_name : List ℕ → Bool
-is_name text = nat_le 1 (length text) && nat_le (length text) 255
-
--- 1 to 20 decimal digits
-abbrev pub is_number : List ℕ → Bool
-is_number text = nat_le 1 (length text) && (nat_le (length text) 20 && list_all is_ascii_digit text)
-
--- the limit of ticks
-abbrev pub within_limit : ℕ → Option ℕ
-within_limit n = if nat_le 1 n && nat_le n 1000000000 then Some n else None
-
--- the ticks, where they are 1 to the limit
-abbrev pub ticks_of : List ℕ → Option ℕ
-ticks_of text = option_and_then within_limit (decimal_in text)
-
--- `flat`, a name, and a number
-abbrev pub is_flat : List ℕ → List ℕ → List ℕ → Bool
-is_flat command image ticks = same_bytes command (codes "flat") && (is_name image && is_number ticks)
-
--- what the words ask for: nothing that there is, or the run of an image, with the word of its ticks
+-- nothing that there is; the run of a flat image, with the word of its ticks; or the run of a system
 pub data Asked : Type 0 where
   Unknown : Asked
   Flat : (image ticks : List ℕ) → Asked
+  System : (run : AskedRun) → Asked
 
-abbrev pub asked_of : List (List ℕ) → Asked
-asked_of (command ∷ image ∷ ticks ∷ []) = if is_flat command image ticks then Flat image ticks else Unknown
-asked_of words = Unknown
+-- behind `flat`: a name and a number
+abbrev pub flat_asked : List (List ℕ) → Asked
+flat_asked (image ∷ ticks ∷ []) = if is_name image && is_number ticks then Flat image ticks else Unknown
+flat_asked words = Unknown
+
+-- behind `run`: what that command takes
+abbrev pub run_asked : Option AskedRun → Asked
+run_asked None = Unknown
+run_asked (Some run) = System run
+
+-- the first word is the command
+unfoldable pub asked_of : List (List ℕ) → Asked
+asked_of [] = Unknown
+asked_of (command ∷ words) =
+    if same_bytes command (codes "flat") then flat_asked words
+    else if same_bytes command (codes "run") then run_asked (run_words_of words)
+    else Unknown
 
 -- the bytes of each word
 abbrev pub texts : List (String Global) → List (List ℕ)
-texts words = map (λ word. string_bytes word) words
+texts words = map string_bytes words

@@ -2,17 +2,18 @@
 #![tactic(auto)]
 
 mod answer;
-mod flat;
 mod last;
+mod laws;
 mod memory;
 mod request;
+mod run;
 mod status;
 mod stream;
-mod words;
 mod write;
 
 pub use answer::rtlinux;
 pub use last::Last;
+pub use laws::shows_solution;
 pub use status::{Code, Device, Status};
 
 #[cfg(test)]

@@ -1,11 +1,10 @@
-// The memory of a run.
+// The memory of a flat image.
 ghost use Rattle.std.specs.Prelude.{◌≡◌, ◌≤◌, ◌++◌, length, drop, IfOk};
-ghost use Rattle.flat_memory.specs.Zeros.{zeros};
-ghost use Rattle.rt_core.specs.Machine.{start_of};
-ghost use Rattle.rtlinux_top.specs.Lines.{flat_start};
+ghost use Rattle.rtlinux_top.specs.Run.{flat_sides as sides_of};
 
 use flat_memory::FlatMemory;
 use outside_io::NoMemory;
+use run_memory::{Sides, store_stub};
 use std::alloc::Global;
 
 /// How many bytes each side has.
@@ -28,15 +27,16 @@ fn load_front(memory: &mut FlatMemory, image: &[u8])
     write_front(memory.guest(), image);
 }
 
-/// Two sides of 65,536 bytes, with an image at address 0.
-#[tactic(auto, unfolding(crate::specs::Lines::flat_start))]
-pub fn flat_memory(alloc: Global, image: &[u8]) -> Result<FlatMemory, NoMemory>
+/// Two sides of 65,536 bytes, with an image at address 0 of the guest's and the stub on the other, and the entry 0.
+#[tactic(auto, unfolding(crate::specs::Run::flat_sides))]
+pub fn flat_sides(alloc: Global, image: &[u8]) -> Result<Sides, NoMemory>
     requires { length image.now ≤ 65536 }
-    ensures start { IfOk result (λ memory. start_of memory 0 ≡ flat_start image.now) }
-    ensures size { IfOk result (λ memory. length memory.guest ≡ 65536) }
-    ensures real_time { IfOk result (λ memory. memory.real_time ≡ zeros 65536) }
+    ensures sides { IfOk result (λ sides. sides ≡ sides_of image.now) }
+    ensures guest_size { IfOk result (λ sides. length sides.memory.guest ≡ 65536) }
+    ensures real_time_size { IfOk result (λ sides. length sides.memory.real_time ≡ 65536) }
 {
     let mut memory = FlatMemory::new(alloc, SIDE_SIZE, SIDE_SIZE)?;
     load_front(&mut memory, image);
-    Ok(memory)
+    store_stub(&mut memory);
+    Ok(Sides { memory, entry: 0 })
 }

@@ -1,147 +1,156 @@
 // What the words and the files come to, before anything runs.
-ghost use Rattle.std.specs.Prelude.{◌≡◌, ◌≢◌, ◌≤◌, ◌<◌, length, IfOk, IfSome, codes, String};
-ghost use Rattle.outside_io.specs.Causes.{Rose};
-ghost use Rattle.rtlinux_top.specs.Status.{IsDetermined};
-ghost use Rattle.rtlinux_top.specs.Words.{asked_of, texts, Unknown};
-ghost use Rattle.rtlinux_top.specs.Verdict.{verdict_of, image_verdict, status_of, output_of, error_line, refused as refused_of, Accepted};
-ghost use Rattle.rtlinux_top.specs.Causes.{AcceptsTicks, HasTicks, RefusesTicks, RefusedEarly};
-ghost use Rattle.rtlinux_top.specs.Image.{GivesImage, ImageCause};
-ghost use Rattle.rtlinux_top.specs.Request.{IfRun, IfRefuse, IfNoMemory};
+ghost use Rattle.std.specs.Prelude.{◌≡◌, ◌≢◌, ◌≤◌, [], false, length, IfSome, Ok, Err};
+ghost use Rattle.outside_io.specs.Memory.{same_bytes};
+ghost use Rattle.run_files.specs.Line.{refusal_text};
+ghost use Rattle.run_files.specs.Verdict.{made, named};
+ghost use Rattle.run_request.specs.Open.{IfRun, IfRefused, Refuses, IsReady, OpenCause};
+ghost use Rattle.rtlinux_top.specs.Request.{as_request, WhenRun, WhenRefused, RequestCause};
+ghost use Rattle.rtlinux_top.specs.Words.{asked_of, flat_asked, texts, Unknown};
+ghost use Rattle.rtlinux_top.specs.Verdict.{verdict_of, flat_in, shows_both};
+ghost use Rattle.rtlinux_top.specs.Causes.{HasTicks, RefusesTicks, RefusedEarly, NamesFileOf};
 
-use crate::status::{Code, Device, Status};
-use crate::words::{is_flat, read_ticks};
+use crate::memory::flat_sides;
+use command_words::{is_name, is_number, read_ticks};
+use device_script::{Events, Script};
 use line_text::LineText;
-use outside_io::{Content, Fetched, Store, StoreFault};
+use outside_io::Store;
+use run_files::{AcceptedRun, Cause, Refusal, refusal_line};
+use run_request::{Opened, fetch_file, request_run};
 use std::alloc::Global;
-
-/// The most bytes of a file.
-const FILE_LIMIT: u32 = 33_554_432;
 
 /// The most bytes of an image that is run flat.
 const FLAT_LIMIT: usize = 65_536;
 
-/// The numbers of the refusals.
-const FILE_TOO_LARGE: u8 = 12;
-
-const PART_OUTSIDE: u8 = 21;
-
-const TICKS_REFUSED: u8 = 40;
-
-/// What the words and the files come to: a run of an image for so many ticks, a refusal with its line, or want of
-/// memory.
-#[derive(Drop)]
-pub enum Request {
-    Run(Content, u32),
-    Refuse(Status, LineText),
-    NoMemory,
-}
-
-/// Why there is no image.
-pub enum ImageRefusal {
-    Read,
-    TooLarge,
-    TooLong,
-    NoMemory,
-}
-
-fn refused(number: u8) -> Status
-    ensures { result ≡ refused_of number }
+fn refused(cause: Cause, word: &[u8]) -> Opened
+    requires { length word.now ≤ 255 }
+    ensures { result ≡ Opened.Refused cause (refusal_text cause word.now) }
 {
-    Status::Refused(Code { number, part: 0 })
+    Opened::Refused(cause, refusal_line(cause, word))
 }
 
-// An error line.
-fn error_text(head: &[u8], word: &[u8]) -> LineText
-    requires head { length head.now ≤ 10 }
-    requires word { length word.now ≤ 255 }
-    ensures { result ≡ error_line head.now word.now }
+// A script without events.
+fn no_script(alloc: Global) -> Script
+    ensures { result.events ≡ [] }
 {
-    let mut line = LineText::new();
-    let _ = line.push_text(head);
-    let _ = line.push_text(word);
-    let _ = line.push_text(b"\n");
-    line
+    Script {
+        events: Events::new(Vec::new(alloc)),
+    }
 }
 
-fn refuse(status: Status, head: &[u8], word: &[u8]) -> Request
-    requires head { length head.now ≤ 10 }
-    requires word { length word.now ≤ 255 }
-    ensures { result ≡ Request.Refuse status (error_line head.now word.now) }
+// The run of a flat image of these bytes.
+fn accept_flat(alloc: Global, image: &[u8], name: &[u8], ticks: u32) -> Opened
+    requires { length name.now ≤ 255 }
+    ensures run { IfRun result (λ run. flat_in ticks image.now ≡ Ok run) }
+    ensures refused { IfRefused result (λ why line. (flat_in ticks image.now ≡ Err why) × (line ≡ refusal_text why name.now) × (why ≡ Cause.Outside)) }
+    ensures ready { IfRun result IsReady }
 {
-    Request::Refuse(status, error_text(head, word))
+    if image.len() > FLAT_LIMIT {
+        return refused(Cause::Outside, name);
+    }
+    match flat_sides(alloc, image) {
+        Ok(sides) => Opened::Run(AcceptedRun {
+            sides,
+            script: no_script(alloc),
+            ticks,
+        }),
+        Err(_) => Opened::NoMemory,
+    }
 }
 
-// The image, where it isn't too large.
-fn fetch_image<S: Store>(alloc: Global, store: &mut S, name: &str) -> Result<Content, ImageRefusal>
+// Fetches a flat image.
+fn open_flat<S: Store>(alloc: Global, store: &mut S, name: &str, ticks: u32) -> Opened
     requires some { 1 ≤ length name.now }
     requires short { length name.now ≤ 255 }
-    ensures told { IfSome (S.held store.old) (λ files. GivesImage (files name.now) result) }
-    ensures small { IfOk result (λ image. length image ≤ 65536) }
-    ensures cause { ImageCause (S.faults store.old) (S.faults store.new) (S.failed_last store.new) name.now result }
+    ensures told_run { IfRun result (λ run. IfSome (S.held store.old) (λ files. named name.now (made (flat_in ticks) (files name.now)) ≡ Ok run)) }
+    ensures told { IfRefused result (λ why line. why ≢ Cause.Read → IfSome (S.held store.old) (λ files. Refuses (named name.now (made (flat_in ticks) (files name.now))) why line)) }
+    ensures read { IfRefused result (λ why line. why ≡ Cause.Read → S.failed_last store.new ≡ name.now) }
+    ensures ticks { IfRun result (λ run. run.ticks ≡ ticks) }
+    ensures ready { IfRun result IsReady }
+    ensures blame { IfRefused result (λ why line. (why ≢ Cause.Words) × (why ≢ Cause.Ticks)) }
+    ensures cause { OpenCause (S.faults store.old) (S.faults store.new) (S.failed_last store.new) result }
 {
-    match store.fetch(alloc, name, FILE_LIMIT) {
-        Ok(Fetched::Bytes(image)) => {
-            if image.as_slice().len() > FLAT_LIMIT {
-                return Err(ImageRefusal::TooLong);
-            }
-            Ok(image)
-        }
-        Ok(Fetched::Larger) => Err(ImageRefusal::TooLarge),
-        Err(StoreFault::Failed) => Err(ImageRefusal::Read),
-        Err(StoreFault::NoMemory) => Err(ImageRefusal::NoMemory),
+    match fetch_file(alloc, store, name) {
+        Ok(content) => accept_flat(alloc, content.as_slice(), name.as_bytes(), ticks),
+        Err(Refusal::Because(cause)) => refused(cause, name.as_bytes()),
+        Err(Refusal::NoMemory) => Opened::NoMemory,
     }
 }
 
-// What a name and accepted ticks come to.
-fn request_flat<S: Store>(alloc: Global, store: &mut S, name: &str, ticks: u32) -> Request
-    requires some { 1 ≤ length name.now }
-    requires short { length name.now ≤ 255 }
-    ensures told_run { IfRun result (λ image n. (n ≡ ticks) × (length image ≤ 65536) × IfSome (S.held store.old) (λ files. image_verdict name.now ticks (files name.now) ≡ Accepted image n)) }
-    ensures told { IfRefuse result (λ status line. IsDetermined status → IfSome (S.held store.old) (λ files. (status ≡ status_of (image_verdict name.now ticks (files name.now))) × (line ≡ output_of (image_verdict name.now ticks (files name.now))))) }
-    ensures read { IfRefuse result (λ status line. status ≡ Status.Outside Device.Read → Rose (S.faults store.old) (S.faults store.new) × (S.failed_last store.new ≡ name.now) × (line ≡ error_line (codes "E read ") name.now)) }
-    ensures fault { IfRefuse result (λ status line. S.faults store.old < S.faults store.new → status ≡ Status.Outside Device.Read) }
-    ensures others { IfRefuse result (λ status line. (status ≢ Status.Usage) × (status ≢ refused_of 40) × (status ≢ Status.Outside Device.Write) × (status ≢ Status.RtFault) × (status ≢ Status.NoMemory) × (status ≢ Status.Done) × (status ≢ Status.Breach)) }
-    ensures no_fault { IfRun result (λ image n. S.faults store.new ≡ S.faults store.old) }
-    ensures no_memory { IfNoMemory result (S.faults store.new ≡ S.faults store.old) }
+// The words behind `flat`.
+#[tactic(auto, unfolding(crate::specs::Verdict::verdict_of))]
+fn request_flat<S: Store>(alloc: Global, words: &[String], store: &mut S) -> Opened
+    ensures told_run { IfRun result (λ run. IfSome (S.held store.old) (λ files. verdict_of (flat_asked (texts words.now)) files ≡ Ok run)) }
+    ensures told { IfRefused result (λ why line. why ≢ Cause.Read → IfSome (S.held store.old) (λ files. Refuses (verdict_of (flat_asked (texts words.now)) files) why line)) }
+    ensures ticks { IfRun result (λ run. HasTicks (flat_asked (texts words.now)) run.ticks) }
+    ensures usage { IfRefused result (λ why line. why ≡ Cause.Words → flat_asked (texts words.now) ≡ Unknown) }
+    ensures no_ticks { IfRefused result (λ why line. why ≡ Cause.Ticks → RefusesTicks (flat_asked (texts words.now))) }
+    ensures early { IfRefused result (λ why line. why ≢ Cause.Read → RefusedEarly (flat_asked (texts words.now)) why) }
+    ensures read { IfRefused result (λ why line. why ≡ Cause.Read → NamesFileOf (flat_asked (texts words.now)) (S.held store.old) (S.failed_last store.new)) }
+    ensures shown { IfRun result (λ run. shows_both (flat_asked (texts words.now)) ≡ false) }
+    ensures ready { IfRun result IsReady }
+    ensures cause { OpenCause (S.faults store.old) (S.faults store.new) (S.failed_last store.new) result }
 {
-    match fetch_image(alloc, store, name) {
-        Ok(image) => Request::Run(image, ticks),
-        Err(ImageRefusal::Read) => refuse(
-            Status::Outside(Device::Read),
-            b"E read ",
-            name.as_bytes(),
-        ),
-        Err(ImageRefusal::TooLarge) => refuse(refused(FILE_TOO_LARGE), b"E 12 ", name.as_bytes()),
-        Err(ImageRefusal::TooLong) => refuse(refused(PART_OUTSIDE), b"E 21 ", name.as_bytes()),
-        Err(ImageRefusal::NoMemory) => Request::NoMemory,
+    if words.len() != 2 {
+        return refused(Cause::Words, b"");
     }
-}
-
-/// What the words and the store's files come to: the first refusal in the order of the words, the ticks and the image,
-/// or else the run of the image.
-pub fn read_request<S: Store>(alloc: Global, words: &[String], store: &mut S) -> Request
-    ensures told_run { IfRun result (λ image n. HasTicks (asked_of (texts words.now)) n × (length image ≤ 65536) × IfSome (S.held store.old) (λ files. verdict_of (asked_of (texts words.now)) files ≡ Accepted image n)) }
-    ensures told { IfRefuse result (λ status line. IsDetermined status → IfSome (S.held store.old) (λ files. (status ≡ status_of (verdict_of (asked_of (texts words.now)) files)) × (line ≡ output_of (verdict_of (asked_of (texts words.now)) files)))) }
-    ensures early { IfRefuse result (λ status line. IsDetermined status → RefusedEarly (asked_of (texts words.now)) status) }
-    ensures usage { IfRefuse result (λ status line. status ≡ Status.Usage → asked_of (texts words.now) ≡ Unknown) }
-    ensures ticks { IfRefuse result (λ status line. status ≡ refused_of 40 → RefusesTicks (asked_of (texts words.now))) }
-    ensures read { IfRefuse result (λ status line. status ≡ Status.Outside Device.Read → Rose (S.faults store.old) (S.faults store.new) × AcceptsTicks (asked_of (texts words.now)) (S.failed_last store.new) × (line ≡ error_line (codes "E read ") (S.failed_last store.new))) }
-    ensures fault { IfRefuse result (λ status line. S.faults store.old < S.faults store.new → status ≡ Status.Outside Device.Read) }
-    ensures others { IfRefuse result (λ status line. (status ≢ Status.Outside Device.Write) × (status ≢ Status.RtFault) × (status ≢ Status.NoMemory) × (status ≢ Status.Done) × (status ≢ Status.Breach)) }
-    ensures no_fault { IfRun result (λ image n. S.faults store.new ≡ S.faults store.old) }
-    ensures no_memory { IfNoMemory result (S.faults store.new ≡ S.faults store.old) }
-{
-    if words.len() != 3 {
-        return refuse(Status::Usage, b"E usage", b"");
-    }
-    let command = words[0].as_str();
-    let image = words[1].as_str();
-    let ticks = words[2].as_str();
-    if !is_flat(command.as_bytes(), image.as_bytes(), ticks.as_bytes()) {
-        return refuse(Status::Usage, b"E usage", b"");
+    let image = words[0].as_str();
+    let ticks = words[1].as_str();
+    if !(is_name(image.as_bytes()) && is_number(ticks.as_bytes())) {
+        return refused(Cause::Words, b"");
     }
     match read_ticks(ticks.as_bytes()) {
-        None => refuse(refused(TICKS_REFUSED), b"E 40 ", ticks.as_bytes()),
-        Some(count) => request_flat(alloc, store, image, count),
+        Some(count) => open_flat(alloc, store, image, count),
+        None => refused(Cause::Ticks, ticks.as_bytes()),
     }
+}
+
+/// What the words and the files come to: a run, and whether the lines of both halves are shown; a refusal with its line; or want of memory.
+#[derive(Drop)]
+pub enum Request {
+    Run(AcceptedRun, bool),
+    Refuse(Cause, LineText),
+    NoMemory,
+}
+
+fn request_of(opened: Opened, both: bool) -> Request
+    ensures { result ≡ as_request both opened }
+{
+    match opened {
+        Opened::Run(run) => Request::Run(run, both),
+        Opened::Refused(cause, line) => Request::Refuse(cause, line),
+        Opened::NoMemory => Request::NoMemory,
+    }
+}
+
+fn is_word(a: &[u8], b: &[u8]) -> bool
+    ensures { result ≡ same_bytes a.now b.now }
+{
+    a == b
+}
+
+/// What the words and the store's files come to: the first refusal in the order of the words, the ticks and the files, or else the run.
+#[tactic(auto, unfolding(crate::specs::Words::asked_of, crate::specs::Verdict::verdict_of))]
+pub fn read_request<S: Store>(alloc: Global, words: &[String], store: &mut S) -> Request
+    ensures told_run { WhenRun result (λ run both. IfSome (S.held store.old) (λ files. verdict_of (asked_of (texts words.now)) files ≡ Ok run)) }
+    ensures told { WhenRefused result (λ why line. why ≢ Cause.Read → IfSome (S.held store.old) (λ files. Refuses (verdict_of (asked_of (texts words.now)) files) why line)) }
+    ensures ticks { WhenRun result (λ run both. HasTicks (asked_of (texts words.now)) run.ticks) }
+    ensures usage { WhenRefused result (λ why line. why ≡ Cause.Words → asked_of (texts words.now) ≡ Unknown) }
+    ensures no_ticks { WhenRefused result (λ why line. why ≡ Cause.Ticks → RefusesTicks (asked_of (texts words.now))) }
+    ensures early { WhenRefused result (λ why line. why ≢ Cause.Read → RefusedEarly (asked_of (texts words.now)) why) }
+    ensures read { WhenRefused result (λ why line. why ≡ Cause.Read → NamesFileOf (asked_of (texts words.now)) (S.held store.old) (S.failed_last store.new)) }
+    ensures shown { WhenRun result (λ run both. shows_both (asked_of (texts words.now)) ≡ both) }
+    ensures ready { WhenRun result (λ run both. IsReady run) }
+    ensures cause { RequestCause (S.faults store.old) (S.faults store.new) (S.failed_last store.new) result }
+{
+    if words.is_empty() {
+        return request_of(refused(Cause::Words, b""), false);
+    }
+    let command = words[0].as_str().as_bytes();
+    if is_word(command, b"flat") {
+        return request_of(request_flat(alloc, &words[1..], store), false);
+    }
+    if is_word(command, b"run") {
+        return request_of(request_run(alloc, &words[1..], store), true);
+    }
+    request_of(refused(Cause::Words, b""), false)
 }

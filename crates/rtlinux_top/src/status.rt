@@ -1,5 +1,8 @@
 // The answers of the top call.
 ghost use Rattle.std.specs.Prelude.{◌≡◌};
+ghost use Rattle.rtlinux_top.specs.Verdict.{refused as refused_of, status_by};
+
+use run_files::Cause;
 
 /// What failed outside.
 #[derive(Clone, Copy, Debug, PartialEq, Eq)]
@@ -53,5 +56,29 @@ impl Status {
             Status::Usage => 5,
             Status::NoMemory => 9,
         }
+    }
+}
+
+fn refused(number: u8, part: u8) -> Status
+    ensures { result ≡ refused_of number part }
+{
+    Status::Refused(Code { number, part })
+}
+
+/// The answer to a refusal.
+pub fn status_by(cause: Cause) -> Status
+    ensures { result ≡ status_by cause }
+{
+    match cause {
+        Cause::Words => Status::Usage,
+        Cause::Ticks => refused(40, 0),
+        Cause::Read => Status::Outside(Device::Read),
+        Cause::TooLarge => refused(12, 0),
+        Cause::Document => refused(10, 0),
+        Cause::Field => refused(11, 0),
+        Cause::Image(rule) => refused(20, rule),
+        Cause::Outside => refused(21, 0),
+        Cause::Overlap => refused(22, 0),
+        Cause::Line(_) => refused(30, 0),
     }
 }

@@ -1,15 +1,31 @@
 // A run whose lines are written as they come.
-ghost use Rattle.std.specs.Prelude.{◌≡◌, ◌≤◌, ◌<◌, ◌||◌, IfOk, None};
-ghost use Rattle.outside_io.specs.Sink.{Puts};
-ghost use Rattle.rt_core.specs.Machine.{bare_of};
-ghost use Rattle.rtlinux_top.specs.Lines.{lines_from, text_of, has_breach, is_breach as breach_of};
-ghost use Rattle.rtlinux_top.specs.Last.{HasRunFrom};
+ghost use Rattle.std.specs.Prelude.{◌≡◌, ◌≤◌, ◌||◌, IfOk};
 ghost use Rattle.std.specs.List.{list_any};
+ghost use Rattle.run_request.specs.Open.{IsReady};
+ghost use Rattle.rtlinux_top.specs.Lines.{run_shown, text_of, has_breach, is_breach as breach_of};
+ghost use Rattle.rtlinux_top.specs.Last.{HasRunTo};
+ghost use Rattle.rtlinux_top.specs.Writes.{Writes};
 
-use crate::write::{piece, write_lines};
-use outside_io::{Sink, SinkFault};
-use rt_core::Machine;
+use crate::write::{write_ends, write_tick};
+use outside_io::{NoMemory, Sink};
+use rt_core::{Machine, Parts};
+use run_files::AcceptedRun;
+use run_memory::Sides;
+use std::alloc::Global;
 use trace_lines::{GLine, Lines};
+
+/// Why a run ends early.
+pub enum RunFault {
+    NoMemory,
+    Sink,
+}
+
+/// A run that is over: its machine, and whether a line was a breach.
+#[derive(Drop)]
+pub struct Finished {
+    pub machine: Machine,
+    pub breach: bool,
+}
 
 fn is_breach(line: &GLine) -> bool
     ensures { result ≡ breach_of line.now }
@@ -30,33 +46,55 @@ fn has_breach_by(before: bool, lines: &[GLine]) -> bool
     before || any_breach(lines)
 }
 
-/// Runs so many ticks from the first, and writes each G line and the first end line with one put. It answers whether a
-/// line was a breach. A fault ends it, and then no further tick is run.
-pub fn run_streaming<K: Sink>(
-    machine: &mut Machine,
-    ticks: u32,
-    lines: &mut Lines,
-    sink: &mut K,
-) -> Result<bool, SinkFault>
-    requires first { machine.old.ticks ≡ 0 }
-    requires nobody_on { machine.old.on ≡ None }
-    requires limit { ticks ≤ 1000000000 }
-    ensures written { Puts (K.written sink.old) (K.written sink.new) (K.faults sink.old) (K.faults sink.new) (text_of (lines_from (bare_of machine.old) ticks)) result }
-    ensures breach { IfOk result (λ breach. breach ≡ has_breach (lines_from (bare_of machine.old) ticks)) }
-    ensures machine { IfOk result (λ breach. HasRunFrom (bare_of machine.old) ticks machine.new) }
+// The machine of a run before its first tick.
+#[tactic(auto, unfolding(bare_machine::specs::Run::bare_after, run_lines::specs::Says::holder))]
+fn boot(run: AcceptedRun) -> Result<Machine, NoMemory>
+    requires { IsReady run }
+    ensures { IfOk result (λ machine. HasRunTo run 0 machine) }
 {
+    let AcceptedRun { sides, script, .. } = run;
+    let Sides { memory, entry } = sides;
+    Machine::boot(Parts {
+        memory,
+        entry,
+        script,
+    })
+}
+
+/// Runs the ticks of a run, and writes each line with one put: those of both halves, or the guest's alone. A fault ends it, and then no
+/// further tick is run.
+pub fn run_streaming<K: Sink>(
+    alloc: Global,
+    run: AcceptedRun,
+    both: bool,
+    sink: &mut K,
+) -> Result<Finished, RunFault>
+    requires ready { IsReady run }
+    requires limit { run.ticks ≤ 1000000000 }
+    ensures written { Writes (K.written sink.old) (K.written sink.new) (K.faults sink.old) (K.faults sink.new) (text_of (run_shown both run)) result }
+    ensures breach { IfOk result (λ finished. finished.breach ≡ has_breach (run_shown both run)) }
+    ensures machine { IfOk result (λ finished. HasRunTo run run.ticks finished.machine) }
+{
+    let ticks = run.ticks;
+    let mut lines = match Lines::new(alloc) {
+        Ok(lines) => lines,
+        Err(_) => return Err(RunFault::NoMemory),
+    };
+    let mut machine = match boot(run) {
+        Ok(machine) => machine,
+        Err(_) => return Err(RunFault::NoMemory),
+    };
     let mut breach = false;
     for t in 0..ticks {
-        machine.tick(lines);
-        let said = lines.g();
-        breach = has_breach_by(breach, said);
-        match write_lines(sink, t + 1, said) {
+        machine.tick(&mut lines);
+        breach = has_breach_by(breach, lines.g());
+        match write_tick(sink, t + 1, both, &lines) {
             Ok(()) => {}
-            Err(fault) => return Err(fault),
+            Err(_) => return Err(RunFault::Sink),
         }
     }
-    match sink.put(piece(ticks, &machine.end()).as_bytes()) {
-        Ok(()) => Ok(breach),
-        Err(fault) => Err(fault),
+    match write_ends(sink, ticks, both, &machine.end()) {
+        Ok(()) => Ok(Finished { machine, breach }),
+        Err(_) => Err(RunFault::Sink),
     }
 }

@@ -1,10 +1,22 @@
-// Calls of the top call over the store and the sink in memory.
+// Calls of the top call over the store and the sink in memory: the worked rows, and failures outside.
+mod flat_rows;
+mod image_rows;
+mod run_rows;
+mod script_rows;
+mod system_rows;
+mod word_rows;
+
 use crate::{Code, Device, Last, Status, rtlinux};
+use flat_rows::Flat;
 use outside_io::{MemorySink, MemoryStore};
 use std::alloc::Global;
 use std::test::Fail;
 
 const FIRST: [u8; 4] = [0x40, 0x40, 0xeb, 0xfc];
+
+const FIVE_TICKS: [&str; 4] = ["run", "s.toml", "--ticks", "5"];
+
+const THIRTEEN_TICKS: [&str; 4] = ["run", "s.toml", "--ticks", "13"];
 
 fn words_of(alloc: Global, words: &[&str]) -> Result<Vec<String>, Fail> {
     let mut list = Vec::new(alloc);
@@ -14,15 +26,17 @@ fn words_of(alloc: Global, words: &[&str]) -> Result<Vec<String>, Fail> {
     Ok(list)
 }
 
-fn store_of(alloc: Global, image: Vec<u8>, failing: &[u32]) -> Result<MemoryStore, Fail> {
-    let mut files = Vec::new(alloc);
-    files.push((String::from_str(alloc, "k.bin")?, image))?;
-    Ok(MemoryStore::new(files, failing.to_vec(alloc)?))
+fn store_of(alloc: Global, files: &[(&str, &[u8])], failing: &[u32]) -> Result<MemoryStore, Fail> {
+    let mut held = Vec::new(alloc);
+    for (name, bytes) in files {
+        held.push((String::from_str(alloc, *name)?, bytes.to_vec(alloc)?))?;
+    }
+    Ok(MemoryStore::new(held, failing.to_vec(alloc)?))
 }
 
-fn sink_of(alloc: Global, capacity: usize) -> Result<MemorySink, Fail> {
+fn sink_of(alloc: Global, failing: &[(u32, u32)]) -> Result<MemorySink, Fail> {
     Ok(
-        MemorySink::new(alloc, capacity, Vec::new(alloc))
+        MemorySink::new(alloc, 4000, failing.to_vec(alloc)?)
             .ok()
             .ok_or("no sink")?,
     )
@@ -32,78 +46,115 @@ fn is_kept(last: &Last) -> bool {
     matches!(last, Last::Ran(_))
 }
 
-// The answer for these words, with an image in the file k.bin, and a test of what was written.
-fn answers(
+// Are these the answer and what was written for these words and files? The machine is kept where the ticks ran.
+fn answers_over(
     alloc: Global,
     words: &[&str],
-    image: Vec<u8>,
+    store: &mut MemoryStore,
+    sink: &mut MemorySink,
     status: Status,
     output: &[u8],
 ) -> Result<bool, Fail> {
     let words = words_of(alloc, words)?;
-    let mut store = store_of(alloc, image, &[])?;
-    let mut sink = sink_of(alloc, 4000)?;
     let mut last = Last::Nothing;
-    let answer = rtlinux(alloc, &words, &mut store, &mut sink, &mut last);
+    let answer = rtlinux(alloc, &words, store, sink, &mut last);
     let ran = answer == Status::Done || answer == Status::Breach;
     Ok(answer == status && sink.written() == output && is_kept(&last) == ran)
 }
 
-fn refused(number: u8) -> Status {
-    Status::Refused(Code { number, part: 0 })
+fn answers(
+    alloc: Global,
+    words: &[&str],
+    files: &[(&str, &[u8])],
+    status: Status,
+    output: &[u8],
+) -> Result<bool, Fail> {
+    let mut store = store_of(alloc, files, &[])?;
+    let mut sink = sink_of(alloc, &[])?;
+    answers_over(alloc, words, &mut store, &mut sink, status, output)
+}
+
+fn refused(code: (u8, u8)) -> Status {
+    Status::Refused(Code {
+        number: code.0,
+        part: code.1,
+    })
+}
+
+// The same for `flat`, with an image in the file k.bin.
+fn flat_answers(
+    alloc: Global,
+    ticks: &str,
+    image: &[u8],
+    status: Status,
+    output: &[u8],
+) -> Result<bool, Fail> {
+    let words = ["flat", "k.bin", ticks];
+    answers(alloc, &words, &[("k.bin", image)], status, output)
+}
+
+// The same for 5 ticks of a system without a script.
+fn system_answers(
+    alloc: Global,
+    system: &[u8],
+    image: &[u8],
+    status: Status,
+    output: &[u8],
+) -> Result<bool, Fail> {
+    let files = [("s.toml", system), ("k.bin", image)];
+    answers(alloc, &FIVE_TICKS, &files, status, output)
+}
+
+// The same for 5 ticks of the small image under a script.
+fn script_answers(
+    alloc: Global,
+    script: &[u8],
+    status: Status,
+    output: &[u8],
+) -> Result<bool, Fail> {
+    let small: &[u8] = &image_rows::SMALL;
+    let files = [
+        ("s.toml", run_rows::SYSTEM),
+        ("k.bin", small),
+        ("d.txt", script),
+    ];
+    answers(alloc, &FIVE_TICKS, &files, status, output)
+}
+
+fn flat_row_holds(alloc: Global, row: &Flat) -> Result<bool, Fail> {
+    flat_answers(alloc, row.ticks, row.image, row.status, row.output)
 }
 
 #[test]
-fn images_run_to_their_end_line(rt: HostRuntime) -> Result<(), Fail> {
-    let alloc = rt.alloc();
-    assert!(rt;
-        answers(
-            alloc,
-            &["flat", "k.bin", "5"],
-            FIRST.to_vec(alloc)?,
-            Status::Done,
-            b"G 5 end runs 00000002 00000002 00000004 00000000 00000000 00000000 00010000 00000000 00000000 00000000\n"
-        )?
-    );
-    assert!(rt;
-        answers(
-            alloc,
-            &["flat", "k.bin", "1"],
-            FIRST.to_vec(alloc)?,
-            Status::Done,
-            b"G 1 end runs 00000001 00000002 00000001 00000000 00000000 00000000 00010000 00000000 00000000 00000000\n"
-        )?
-    );
-    assert!(rt;
-        answers(
-            alloc,
-            &["flat", "k.bin", "200001"],
-            FIRST.to_vec(alloc)?,
-            Status::Done,
-            b"G 200001 end runs 00000000 00000002 000208d6 00000000 00000000 00000000 00010000 00000000 00000000 00000000\n"
-        )?
-    );
+fn flat_images_run_to_their_end_line(rt: HostRuntime) -> Result<(), Fail> {
+    for row in &flat_rows::FLAT {
+        assert!(rt; flat_row_holds(rt.alloc(), row)?, "{}", row.name);
+    }
     Ok(())
 }
 
 #[test]
-fn undefined_bytes_and_the_edge_stop_the_guest(rt: HostRuntime) -> Result<(), Fail> {
+fn the_edge_of_the_guest_is_a_breach(rt: HostRuntime) -> Result<(), Fail> {
     let alloc = rt.alloc();
+    // A jump to the last byte, which begins an instruction.
+    let mut image = [0xe9, 0xfa, 0xff].to_vec(alloc)?;
+    image.extend_from_slice(vec![in alloc; 0u8; 65_532]?.as_slice())?;
+    image.push(0xb8)?;
     assert!(rt;
-        answers(
+        flat_answers(
             alloc,
-            &["flat", "k.bin", "1"],
-            [0x0f, 0x0b].to_vec(alloc)?,
-            Status::Done,
-            b"G 1 shutdown 6\nG 1 end stopped 00000000 00000002 00000000 00000000 00000000 00000000 00010000 00000000 00000000 00000000\n"
+            "2",
+            image.as_slice(),
+            Status::Breach,
+            b"G 2 breach fetch 00010000\nG 2 end stopped 0000ffff 00000002 00000000 00000000 00000000 00000000 00010000 00000000 00000000 00000000\n"
         )?
     );
     // A jump back over address 0.
     assert!(rt;
-        answers(
+        flat_answers(
             alloc,
-            &["flat", "k.bin", "2"],
-            [0xeb, 0x80].to_vec(alloc)?,
+            "2",
+            &[0xeb, 0x80],
             Status::Breach,
             b"G 2 breach fetch ffffff82\nG 2 end stopped ffffff82 00000002 00000000 00000000 00000000 00000000 00010000 00000000 00000000 00000000\n"
         )?
@@ -112,10 +163,10 @@ fn undefined_bytes_and_the_edge_stop_the_guest(rt: HostRuntime) -> Result<(), Fa
     let mut edge = vec![in alloc; 0x40u8; 65_535]?;
     edge.push(0xeb)?;
     assert!(rt;
-        answers(
+        flat_answers(
             alloc,
-            &["flat", "k.bin", "65537"],
-            edge,
+            "65537",
+            edge.as_slice(),
             Status::Breach,
             b"G 65536 breach fetch 00010000\nG 65537 end stopped 0000ffff 00000006 0000ffff 00000000 00000000 00000000 00010000 00000000 00000000 00000000\n"
         )?
@@ -124,99 +175,168 @@ fn undefined_bytes_and_the_edge_stop_the_guest(rt: HostRuntime) -> Result<(), Fa
 }
 
 #[test]
-fn ticks_and_files_are_refused(rt: HostRuntime) -> Result<(), Fail> {
+fn flat_files_are_refused(rt: HostRuntime) -> Result<(), Fail> {
     let alloc = rt.alloc();
+    // No file, a byte more than the guest's side, a byte more than a file may have, and just as many.
     assert!(rt;
         answers(
             alloc,
-            &["flat", "k.bin", "0"],
-            FIRST.to_vec(alloc)?,
-            refused(40),
-            b"E 40 0\n"
-        )?
-    );
-    assert!(rt;
-        answers(
-            alloc,
-            &["flat", "k.bin", "1000000001"],
-            FIRST.to_vec(alloc)?,
-            refused(40),
-            b"E 40 1000000001\n"
-        )?
-    );
-    assert!(rt;
-        answers(
-            alloc,
-            &["flat", "k.bin", "99999999999999999999"],
-            FIRST.to_vec(alloc)?,
-            refused(40),
-            b"E 40 99999999999999999999\n"
-        )?
-    );
-    assert!(rt;
-        answers(
-            alloc,
-            &["flat", "no.bin", "5"],
-            FIRST.to_vec(alloc)?,
+            &["flat", "k.bin", "5"],
+            &[],
             Status::Outside(Device::Read),
-            b"E read no.bin\n"
+            b"E read k.bin\n"
         )?
     );
+    let sizes: [(usize, u8, &[u8]); 3] = [
+        (65_537, 21, b"E 21 k.bin\n"),
+        (33_554_433, 12, b"E 12 k.bin\n"),
+        (33_554_432, 21, b"E 21 k.bin\n"),
+    ];
+    for (size, number, output) in sizes {
+        let image = vec![in alloc; 0u8; size]?;
+        assert!(rt;
+            flat_answers(alloc, "5", image.as_slice(), refused((number, 0)), output)?,
+            "{size}"
+        );
+    }
+    Ok(())
+}
+
+#[test]
+fn words_are_a_command_or_usage(rt: HostRuntime) -> Result<(), Fail> {
+    let alloc = rt.alloc();
+    let files = [
+        ("s.toml", run_rows::SYSTEM),
+        ("k.bin", run_rows::WAITS),
+        ("d.txt", run_rows::SCRIPT),
+    ];
+    for words in &word_rows::USAGE {
+        assert!(rt;
+            answers(alloc, *words, &files, Status::Usage, b"E usage\n")?,
+            "{words:?}"
+        );
+    }
+    for (words, output) in &word_rows::TICKS {
+        assert!(rt;
+            answers(alloc, *words, &files, refused((40, 0)), *output)?,
+            "{words:?}"
+        );
+    }
+    for words in &word_rows::RUNS {
+        assert!(rt;
+            answers(alloc, *words, &files, Status::Done, run_rows::WAITED)?,
+            "{words:?}"
+        );
+    }
+    Ok(())
+}
+
+#[test]
+fn a_halted_guest_is_woken_by_the_script(rt: HostRuntime) -> Result<(), Fail> {
+    let files = [
+        ("s.toml", run_rows::SYSTEM),
+        ("k.bin", run_rows::HALTS),
+        ("d.txt", run_rows::SCRIPT),
+    ];
     assert!(rt;
         answers(
-            alloc,
-            &["flat", "k.bin", "5"],
-            vec![in alloc; 0u8; 65_537]?,
-            refused(21),
-            b"E 21 k.bin\n"
-        )?
-    );
-    assert!(rt;
-        answers(
-            alloc,
-            &["flat", "k.bin", "5"],
-            vec![in alloc; 0u8; 33_554_433]?,
-            refused(12),
-            b"E 12 k.bin\n"
+            rt.alloc(),
+            &THIRTEEN_TICKS,
+            &files,
+            Status::Done,
+            run_rows::HALTED
         )?
     );
     Ok(())
 }
 
+// The small image with these changes, and no more than so many bytes of it.
+fn changed(alloc: Global, changes: &[(usize, u8)], size: usize) -> Result<Vec<u8>, Fail> {
+    let mut image = image_rows::SMALL.to_vec(alloc)?;
+    for (at, byte) in changes {
+        if let Some(place) = image.get_mut(*at) {
+            *place = *byte;
+        }
+    }
+    image.truncate(size);
+    Ok(image)
+}
+
 #[test]
-fn other_words_are_usage(rt: HostRuntime) -> Result<(), Fail> {
+fn images_run_or_break_a_rule(rt: HostRuntime) -> Result<(), Fail> {
     let alloc = rt.alloc();
-    let rows: [&[&str]; 20] = [
-        &[],
-        &["fly"],
-        &["flat", "k.bin"],
-        &["flat", "k.bin", "five"],
-        &["flat", "k.bin", "5", "6"],
-        &["flat", "", "5"],
-        &["flat", "k.bin", ""],
-        &["flat", "k.bin", "000000000000000000005"],
-        &["flat", "k.bin", "+5"],
-        &["run", "s.toml"],
-        &["run", "s.toml", "--ticks", "5"],
-        &["run", "--help"],
-        &["make", "1", "--ticks", "1"],
-        &["make", "1"],
-        &["RUN", "s.toml", "--ticks", "5"],
-        &["help"],
-        &["--help"],
-        &["bare", "k.bin", "5"],
-        &["check", "s.toml", "o.txt"],
-        &["FLAT", "k.bin", "5"],
-    ];
-    for row in rows {
+    for (name, changes, output) in &image_rows::RAN {
+        let image = changed(alloc, *changes, 86)?;
         assert!(rt;
-            answers(
+            system_answers(
                 alloc,
-                row,
-                FIRST.to_vec(alloc)?,
-                Status::Usage,
-                b"E usage\n"
-            )?
+                image_rows::SYSTEM,
+                image.as_slice(),
+                Status::Done,
+                *output
+            )?,
+            "{name}"
+        );
+    }
+    for (name, changes, size, code, output) in &image_rows::REFUSED {
+        let image = changed(alloc, *changes, *size)?;
+        assert!(rt;
+            system_answers(
+                alloc,
+                image_rows::SYSTEM,
+                image.as_slice(),
+                refused(*code),
+                *output
+            )?,
+            "{name}"
+        );
+    }
+    for (name, image, code, output) in &image_rows::WHOLE {
+        assert!(rt;
+            system_answers(alloc, image_rows::SYSTEM, *image, refused(*code), *output)?,
+            "{name}"
+        );
+    }
+    Ok(())
+}
+
+#[test]
+fn scripts_are_lines_in_order(rt: HostRuntime) -> Result<(), Fail> {
+    let alloc = rt.alloc();
+    for (name, script) in &script_rows::RAN {
+        assert!(rt;
+            script_answers(alloc, *script, Status::Done, image_rows::LOOPED)?,
+            "{name}"
+        );
+    }
+    for (name, script, output) in &script_rows::REFUSED {
+        assert!(rt;
+            script_answers(alloc, *script, refused((30, 0)), *output)?,
+            "{name}"
+        );
+    }
+    Ok(())
+}
+
+#[test]
+fn system_files_have_their_fields(rt: HostRuntime) -> Result<(), Fail> {
+    let alloc = rt.alloc();
+    for (name, system) in &system_rows::RAN {
+        assert!(rt;
+            system_answers(
+                alloc,
+                *system,
+                &image_rows::SMALL,
+                Status::Done,
+                image_rows::LOOPED
+            )?,
+            "{name}"
+        );
+    }
+    for (name, system, code, output) in &system_rows::REFUSED {
+        assert!(rt;
+            system_answers(alloc, *system, &image_rows::SMALL, refused(*code), *output)?,
+            "{name}"
         );
     }
     Ok(())
@@ -225,164 +345,78 @@ fn other_words_are_usage(rt: HostRuntime) -> Result<(), Fail> {
 #[test]
 fn a_failing_put_ends_the_run(rt: HostRuntime) -> Result<(), Fail> {
     let alloc = rt.alloc();
-    let words = words_of(alloc, &["flat", "k.bin", "3"])?;
-    let mut store = store_of(alloc, [0x0f, 0x0b].to_vec(alloc)?, &[])?;
-    let mut sink = MemorySink::new(alloc, 4000, [(2, 4)].to_vec(alloc)?)
-        .ok()
-        .ok_or("no sink")?;
-    let mut last = Last::Nothing;
-    let status = rtlinux(alloc, &words, &mut store, &mut sink, &mut last);
-    assert_eq!(rt; status, Status::Outside(Device::Write));
-    assert_eq!(rt; sink.written(), b"G 1 shutdown 6\nG 3 ".as_slice());
-    assert!(rt; !is_kept(&last));
+    let mut store = store_of(alloc, &[("k.bin", &[0x0f, 0x0b])], &[])?;
+    let mut sink = sink_of(alloc, &[(2, 4)])?;
+    assert!(rt;
+        answers_over(
+            alloc,
+            &["flat", "k.bin", "3"],
+            &mut store,
+            &mut sink,
+            Status::Outside(Device::Write),
+            b"G 1 shutdown 6\nG 3 "
+        )?
+    );
+    let files = [
+        ("s.toml", run_rows::SYSTEM),
+        ("k.bin", run_rows::WAITS),
+        ("d.txt", run_rows::SCRIPT),
+    ];
+    let mut store = store_of(alloc, &files, &[])?;
+    let mut sink = sink_of(alloc, &[(3, 4)])?;
+    assert!(rt;
+        answers_over(
+            alloc,
+            &THIRTEEN_TICKS,
+            &mut store,
+            &mut sink,
+            Status::Outside(Device::Write),
+            b"R 1 on guest\nG 10 enter 37\nR 13"
+        )?
+    );
     Ok(())
 }
 
 #[test]
 fn a_failing_fetch_is_told(rt: HostRuntime) -> Result<(), Fail> {
     let alloc = rt.alloc();
-    let words = words_of(alloc, &["flat", "k.bin", "3"])?;
-    let mut store = store_of(alloc, FIRST.to_vec(alloc)?, &[1])?;
-    let mut sink = sink_of(alloc, 4000)?;
-    let mut last = Last::Nothing;
-    let status = rtlinux(alloc, &words, &mut store, &mut sink, &mut last);
-    assert_eq!(rt; status, Status::Outside(Device::Read));
-    assert_eq!(rt; sink.written(), b"E read k.bin\n".as_slice());
-    assert_eq!(rt; status.number(), 2);
-    Ok(())
-}
-
-// Worked rows: ticks, image, whether there is a breach, and output.
-struct Row {
-    ticks: &'static str,
-    image: &'static [u8],
-    breach: bool,
-    output: &'static [u8],
-}
-
-static ROWS: [Row; 16] = [
-    Row {
-        ticks: "5",
-        image: &[0xa3, 0xfc, 0xff, 0x00, 0x00, 0xa3, 0xfd, 0xff, 0x00, 0x00],
-        breach: true,
-        output: b"G 2 breach store 0000fffd\nG 5 end stopped 00000005 00000002 00000000 00000000 00000000 00000000 00010000 00000000 00000000 00000000\n",
-    },
-    Row {
-        ticks: "3",
-        image: &[0xbc, 0x10, 0x00, 0x00, 0x00, 0x60],
-        breach: true,
-        output: b"G 2 breach store fffffffc\nG 3 end stopped 00000005 00000002 00000000 00000000 00000000 00000000 00000010 00000000 00000000 00000000\n",
-    },
-    Row {
-        ticks: "2",
-        image: &[0xfa],
-        breach: true,
-        output: b"G 1 breach cli\nG 2 end stopped 00000000 00000002 00000000 00000000 00000000 00000000 00010000 00000000 00000000 00000000\n",
-    },
-    Row {
-        ticks: "4",
-        image: &[0xcd, 0xf3, 0x58, 0x9c],
-        breach: true,
-        output: b"G 3 breach pushf\nG 4 end stopped 00000003 00000002 00000002 00000000 00000000 00000000 00010000 00000000 00000000 00000000\n",
-    },
-    Row {
-        ticks: "3",
-        image: &[0xcd, 0xf1, 0xcd, 0xf3, 0x58],
-        breach: false,
-        output: b"G 3 end runs 00000005 00000202 00000202 00000000 00000000 00000000 00010000 00000000 00000000 00000000\n",
-    },
-    Row {
-        ticks: "2",
-        image: &[0xf7, 0xf0],
-        breach: false,
-        output: b"G 1 shutdown 0\nG 2 end stopped 00000000 00000002 00000000 00000000 00000000 00000000 00010000 00000000 00000000 00000000\n",
-    },
-    Row {
-        ticks: "6",
-        image: &[
-            0xb8, 0x01, 0x00, 0x00, 0x00, 0xbb, 0x20, 0x00, 0x00, 0x00, 0xb9, 0x01, 0x00, 0x00,
-            0x00, 0xcd, 0xf6, 0xf7, 0xf2, 0x00, 0x00, 0x00, 0x00, 0x00, 0x00, 0x00, 0x00, 0x00,
-            0x00, 0x00, 0x00, 0x00, 0x30, 0x00, 0x08, 0x00, 0x00, 0x8e, 0x00, 0x00, 0x00, 0x00,
-            0x00, 0x00, 0x00, 0x00, 0x00, 0x00, 0x58,
-        ],
-        breach: false,
-        output: b"G 5 int 0\nG 6 end runs 00000031 00000002 00000011 00000001 00000000 00000020 0000fff8 00000000 00000000 00000000\n",
-    },
-    Row {
-        ticks: "3",
-        image: &[0xb1, 0x03, 0xf3, 0xa4, 0x40],
-        breach: false,
-        output: b"G 3 end runs 00000002 00000002 00000000 00000001 00000000 00000000 00010000 00000000 00000002 00000002\n",
-    },
-    Row {
-        ticks: "2",
-        image: &[0xf3, 0xa4, 0x40],
-        breach: false,
-        output: b"G 2 end runs 00000003 00000002 00000001 00000000 00000000 00000000 00010000 00000000 00000000 00000000\n",
-    },
-    Row {
-        ticks: "2",
-        image: &[0xb0, 0x7f, 0x04, 0x01],
-        breach: false,
-        output: b"G 2 end runs 00000004 00000892 00000080 00000000 00000000 00000000 00010000 00000000 00000000 00000000\n",
-    },
-    Row {
-        ticks: "2",
-        image: &[0xb0, 0x81, 0xd0, 0xe0],
-        breach: false,
-        output: b"G 2 end runs 00000004 00000803 00000002 00000000 00000000 00000000 00010000 00000000 00000000 00000000\n",
-    },
-    Row {
-        ticks: "1",
-        image: &[],
-        breach: false,
-        output: b"G 1 end runs 00000002 00000046 00000000 00000000 00000000 00000000 00010000 00000000 00000000 00000000\n",
-    },
-    Row {
-        ticks: "2",
-        image: &[0xe9, 0xfa, 0xff, 0x00, 0x00],
-        breach: true,
-        output: b"G 2 breach fetch 00010000\nG 2 end stopped 0000ffff 00000002 00000000 00000000 00000000 00000000 00010000 00000000 00000000 00000000\n",
-    },
-    Row {
-        ticks: "1",
-        image: &[0xcd, 0xf7],
-        breach: true,
-        output: b"G 1 breach int 247\nG 1 end stopped 00000000 00000002 00000000 00000000 00000000 00000000 00010000 00000000 00000000 00000000\n",
-    },
-    Row {
-        ticks: "1",
-        image: &[0x0f, 0x0b],
-        breach: false,
-        output: b"G 1 shutdown 6\nG 1 end stopped 00000000 00000002 00000000 00000000 00000000 00000000 00010000 00000000 00000000 00000000\n",
-    },
-    Row {
-        ticks: "2",
-        image: &[0xcd, 0xf1, 0x40],
-        breach: false,
-        output: b"G 2 end runs 00000003 00000202 00000001 00000000 00000000 00000000 00010000 00000000 00000000 00000000\n",
-    },
-];
-
-fn row_holds(alloc: Global, row: &Row) -> Result<bool, Fail> {
-    let status = if row.breach {
-        Status::Breach
-    } else {
-        Status::Done
-    };
-    answers(
-        alloc,
-        &["flat", "k.bin", row.ticks],
-        row.image.to_vec(alloc)?,
-        status,
-        row.output,
-    )
-}
-
-#[test]
-fn worked_rows_hold(rt: HostRuntime) -> Result<(), Fail> {
-    for row in &ROWS {
-        assert!(rt; row_holds(rt.alloc(), row)?);
+    let mut store = store_of(alloc, &[("k.bin", &FIRST)], &[1])?;
+    let mut sink = sink_of(alloc, &[])?;
+    assert!(rt;
+        answers_over(
+            alloc,
+            &["flat", "k.bin", "3"],
+            &mut store,
+            &mut sink,
+            Status::Outside(Device::Read),
+            b"E read k.bin\n"
+        )?
+    );
+    let files = [
+        ("s.toml", run_rows::SYSTEM),
+        ("k.bin", run_rows::WAITS),
+        ("d.txt", run_rows::SCRIPT),
+    ];
+    let fetches: [(u32, &[u8]); 3] = [
+        (1, b"E read s.toml\n"),
+        (2, b"E read k.bin\n"),
+        (3, b"E read d.txt\n"),
+    ];
+    for (fetch, output) in fetches {
+        let mut store = store_of(alloc, &files, &[fetch])?;
+        let mut sink = sink_of(alloc, &[])?;
+        assert!(rt;
+            answers_over(
+                alloc,
+                &THIRTEEN_TICKS,
+                &mut store,
+                &mut sink,
+                Status::Outside(Device::Read),
+                output
+            )?,
+            "fetch {fetch}"
+        );
     }
+    assert_eq!(rt; Status::Outside(Device::Read).number(), 2);
     Ok(())
 }

@@ -1,81 +1,84 @@
-use Rattle.std.proofs.Common.{◌≡◌, ℕ, List, [], ◌++◌, refl, ap, sym, subst, ◌∙◌, arith}
+use Rattle.std.proofs.Common.{◌≡◌, [], ◌++◌, refl, ap, sym, ◌∙◌, arith}
+use Rattle.std.specs.Prelude.{◌||◌}
+use Rattle.std.specs.List.{list_any}
 use Rattle.std.proofs.lemmas.List.{append-nil}
-use Rattle.outside_io.specs.Sink.{appended}
-use Rattle.bare_machine.specs.State.{Bare}
-use Rattle.bare_machine.specs.Run.{bare_run, end_line}
-use Rattle.rt_core.specs.Machine.{bare_of}
-use Rattle.rtlinux_top.specs.Last.{HasRunFrom}
-use Rattle.rtlinux_top.specs.Lines.{guest_on, text_of, piece_of}
-use Rattle.rtlinux_top.proofs.Written.{fault_part, appended_twice}
-use Rattle.rtlinux_top.proofs.Streams.{told_first, told_next, whole_at, whole_end, breach_first, breach_next, breach_end}
-use Rattle.rtlinux_top.proofs.Ran.{ran_none, ran_next, said_next}
+use Rattle.rtlinux_top.specs.Lines.{shown_to, text_of, is_breach}
+use Rattle.rtlinux_top.proofs.Written.{fault_part}
+use Rattle.rtlinux_top.proofs.Streams.{told_first, told_next, shown_same, whole_at, whole_end, ends_same, told_end, breach_first, breach_next, breach_end}
+use Rattle.rtlinux_top.proofs.Ran.{Ticked, ran_next, said_r, said_g}
 use Rattle.rtlinux_top.proofs.stream.run_streaming.Goals as goal
 
 pub loop-t-init : goal.loop-t-init
 loop-t-init g c = record {
-  ran = ran_none c.args.machine.now c.requires.first c.requires.nobody_on;
-  told = told_first (g.K.Sink.written c.args.sink.now) (bare_of c.args.machine.now);
+  ran = c.in-Ok-boot.ensures;
+  told = told_first (g.K.Sink.written c.args.sink.now) c.args.both c.args.run;
   kept = refl;
-  breach = breach_first (bare_of c.args.machine.now);
+  breach = breach_first c.args.both c.args.run;
 }
 
-pub returns-in-Err-clause-written : goal.returns-in-Err-clause-written
-returns-in-Err-clause-written g c =
-    let put = c.in-Err.ensures in
-    let tick = c.tick.ensures in
-    let b : Bare = bare_of c.args.machine.now in
-    let said = said_next b c.loop-t.t _ c.tick.new.self _ _ c.loop-t.invariant.ran tick.guest tick.holder tick.picked in
-    let whole = whole_at b c.loop-t.t c.args.ticks _ (omega arith) (c.g-said.ensures ∙ said) in (
+pub returns-in-Err-write_tick-clause-written : goal.returns-in-Err-write_tick-clause-written
+returns-in-Err-write_tick-clause-written g c =
+    let put = c.in-Err-write_tick.ensures in
+    let tick : Ticked c.loop-t.machine c.tick.new.self c.tick.new.lines.r c.tick.new.lines.g = record {
+      guest = c.tick.ensures.guest;
+      guest_lines = c.tick.ensures.guest_lines;
+      holder = c.tick.ensures.holder;
+      picked = c.tick.ensures.picked;
+      coming = c.tick.ensures.coming;
+      real_time = c.tick.ensures.real_time;
+      ticks = c.tick.ensures.ticks;
+    } in
+    let ran = c.loop-t.invariant.ran in
+    let r = said_r c.args.run c.loop-t.t _ _ _ _ ran tick in
+    let said = shown_same c.args.both c.args.run c.loop-t.t _ _ r (said_g c.args.run c.loop-t.t _ _ _ _ ran tick) in
+    let whole = whole_at c.args.both c.args.run c.loop-t.t _ (omega arith) said in (
       omega (arith, put.0, c.loop-t.invariant.kept),
       omega (arith, put.1, c.loop-t.invariant.kept),
-      fault_part (g.K.Sink.written c.args.sink.now) (g.K.Sink.written c.loop-t.sink) (g.K.Sink.written c.write_lines.new.sink) (text_of (bare_run b guest_on c.loop-t.t)) _ whole.0 _
+      fault_part (g.K.Sink.written c.args.sink.now) (g.K.Sink.written c.loop-t.sink) (g.K.Sink.written c.write_tick.new.sink) (text_of (shown_to c.args.both c.args.run c.loop-t.t)) _ whole.0 _
           c.loop-t.invariant.told whole.1 put.2.0 put.2.1 put.2.2,
     )
 
 pub loop-t-preserved : goal.loop-t-preserved
 loop-t-preserved g c =
-    let tick = c.tick.ensures in
-    let b : Bare = bare_of c.args.machine.now in
-    let said = said_next b c.loop-t.t _ c.tick.new.self _ _ c.loop-t.invariant.ran tick.guest tick.holder tick.picked in
+    let tick : Ticked c.loop-t.machine c.tick.new.self c.tick.new.lines.r c.tick.new.lines.g = record {
+      guest = c.tick.ensures.guest;
+      guest_lines = c.tick.ensures.guest_lines;
+      holder = c.tick.ensures.holder;
+      picked = c.tick.ensures.picked;
+      coming = c.tick.ensures.coming;
+      real_time = c.tick.ensures.real_time;
+      ticks = c.tick.ensures.ticks;
+    } in
+    let ran = c.loop-t.invariant.ran in
+    let r = said_r c.args.run c.loop-t.t _ _ _ _ ran tick in
+    let said = shown_same c.args.both c.args.run c.loop-t.t _ _ r (said_g c.args.run c.loop-t.t _ _ _ _ ran tick) in
     record {
-      ran = ran_next b c.loop-t.t _ c.tick.new.self _ _ c.loop-t.invariant.ran tick.guest tick.holder tick.picked tick.ticks;
-      told = told_next (g.K.Sink.written c.args.sink.now) (g.K.Sink.written c.loop-t.sink) (g.K.Sink.written c.write_lines.new.sink) b c.loop-t.t _ (c.g-said.ensures ∙ said) c.loop-t.invariant.told c.in-Ok.ensures.0;
-      kept = c.in-Ok.ensures.1 ∙ c.loop-t.invariant.kept;
-      breach = breach_next b c.loop-t.t _ c.loop-t.breach _ (c.g-said.ensures ∙ said) c.loop-t.invariant.breach c.has_breach_by-breach.ensures;
+      ran = ran_next c.args.run c.loop-t.t _ _ _ _ ran tick;
+      told = told_next (g.K.Sink.written c.args.sink.now) (g.K.Sink.written c.loop-t.sink) (g.K.Sink.written c.write_tick.new.sink) c.args.both c.args.run c.loop-t.t _ said c.loop-t.invariant.told c.in-Ok-write_tick.ensures.0;
+      kept = c.in-Ok-write_tick.ensures.1 ∙ c.loop-t.invariant.kept;
+      breach = breach_next c.args.both c.args.run c.loop-t.t _ _ c.loop-t.breach _ said c.loop-t.invariant.breach (c.has_breach_by-breach.ensures ∙ ap (λ lines. c.loop-t.breach || list_any is_breach lines) c.g.ensures);
     }
 
-pub returns-in-Ok-put-clause-written : goal.returns-in-Ok-put-clause-written
-returns-in-Ok-put-clause-written g c =
-    let own = c.as_bytes.ensures.text ∙ c.piece.ensures in
-    let b : Bare = bare_of c.args.machine.now in
-    let done : c.loop-t.t ≡ c.args.ticks = omega arith in
-    let front : List ℕ = text_of (bare_run b guest_on c.loop-t.t) in
-    let line = c.end.ensures ∙ ap end_line c.loop-t.invariant.ran.bare in
-    let whole = whole_end b c.args.ticks c.loop-t.t c.end.result done line in (
-      c.in-Ok-put.ensures.0 ∙ ap (λ w. appended w c.as_bytes.result.now) c.loop-t.invariant.told ∙ appended_twice (g.K.Sink.written c.args.sink.now) front c.as_bytes.result.now
-          ∙ ap (λ p. appended (g.K.Sink.written c.args.sink.now) (front ++ p)) (own ∙ sym (append-nil _)) ∙ ap (appended (g.K.Sink.written c.args.sink.now)) (sym whole),
-      c.in-Ok-put.ensures.1 ∙ c.loop-t.invariant.kept,
+pub returns-in-Ok-write_ends-clause-written : goal.returns-in-Ok-write_ends-clause-written
+returns-in-Ok-write_ends-clause-written g c =
+    let done : c.loop-t.t ≡ c.args.run.ticks = omega arith in
+    let said = ends_same c.args.both c.args.run c.loop-t.t _ _ _ c.loop-t.invariant.ran c.end.ensures.real_time c.end.ensures.guest in (
+      told_end (g.K.Sink.written c.args.sink.now) (g.K.Sink.written c.loop-t.sink) (g.K.Sink.written c.write_ends.new.sink) c.args.both c.args.run c.loop-t.t _ done said c.loop-t.invariant.told c.in-Ok-write_ends.ensures.0,
+      c.in-Ok-write_ends.ensures.1 ∙ c.loop-t.invariant.kept,
     )
 
-pub returns-in-Ok-put-clause-breach : goal.returns-in-Ok-put-clause-breach
-returns-in-Ok-put-clause-breach g c = c.loop-t.invariant.breach ∙ breach_end (bare_of c.args.machine.now) c.args.ticks c.loop-t.t (omega arith)
+pub returns-in-Ok-write_ends-clause-breach : goal.returns-in-Ok-write_ends-clause-breach
+returns-in-Ok-write_ends-clause-breach g c = c.loop-t.invariant.breach ∙ breach_end c.args.both c.args.run c.loop-t.t (omega arith)
 
-pub returns-in-Ok-put-clause-machine : goal.returns-in-Ok-put-clause-machine
-returns-in-Ok-put-clause-machine g c =
-    let done : c.loop-t.t ≡ c.args.ticks = omega arith in
-    subst (λ (n : ℕ). HasRunFrom (bare_of c.args.machine.now) n c.loop-t.machine) done c.loop-t.invariant.ran
-
-pub returns-in-Err-put-clause-written : goal.returns-in-Err-put-clause-written
-returns-in-Err-put-clause-written g c =
-    let put = c.in-Err-put.ensures in
-    let own = c.as_bytes.ensures.text ∙ c.piece.ensures in
-    let b : Bare = bare_of c.args.machine.now in
-    let done : c.loop-t.t ≡ c.args.ticks = omega arith in
-    let front : List ℕ = text_of (bare_run b guest_on c.loop-t.t) in
-    let line = c.end.ensures ∙ ap end_line c.loop-t.invariant.ran.bare in
-    let whole = whole_end b c.args.ticks c.loop-t.t c.end.result done line ∙ ap (λ (p : List ℕ). front ++ (p ++ [])) (sym own) in (
+pub returns-clause-written : goal.returns-clause-written
+returns-clause-written g c =
+    let put = c.in-Err-write_ends.ensures in
+    let done : c.loop-t.t ≡ c.args.run.ticks = omega arith in
+    let said = ends_same c.args.both c.args.run c.loop-t.t _ _ _ c.loop-t.invariant.ran c.end.ensures.real_time c.end.ensures.guest in
+    let front = text_of (shown_to c.args.both c.args.run c.loop-t.t) in
+    let whole = whole_end c.args.both c.args.run c.loop-t.t _ done said ∙ ap (λ xs. front ++ xs) (sym (append-nil _)) in (
       omega (arith, put.0, c.loop-t.invariant.kept),
       omega (arith, put.1, c.loop-t.invariant.kept),
-      fault_part (g.K.Sink.written c.args.sink.now) (g.K.Sink.written c.loop-t.sink) (g.K.Sink.written c.put.new.self) front c.as_bytes.result.now [] _
+      fault_part (g.K.Sink.written c.args.sink.now) (g.K.Sink.written c.loop-t.sink) (g.K.Sink.written c.write_ends.new.sink) front _ [] _
           c.loop-t.invariant.told whole put.2.0 put.2.1 put.2.2,
     )

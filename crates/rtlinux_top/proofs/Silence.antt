@@ -1,0 +1,169 @@
+-- A guest to which no services are given makes no calls.
+use Rattle.std.proofs.Common.{◌≡◌, ℕ, zero, suc, ◌+◌, ◌==◌, Bool, true, false, ◌&&◌, refl, sym, ap, ◌∙◌, List, [], ◌∷◌, ◌++◌, if◌then◌else◌, Option, Some, None}
+use Rattle.std.specs.List.{filter_map, cons_option}
+use Rattle.i386_execute.specs.Unit.{Effect, address_behind}
+use Rattle.device_script.specs.declared.event.Event.{Event}
+use Rattle.breach_monitor.specs.GuestUnit.{answer_to}
+use Rattle.breach_monitor.specs.declared.guest.GuestUnit.{GuestUnit}
+use Rattle.breach_monitor.specs.declared.guest.GuestUnit.TheVariants.{Next, Enter as Enters, Gate, Breach as Breaches}
+use Rattle.soft_entry.specs.Entry.{Entering, entering}
+use Rattle.soft_entry.specs.declared.entry.Entry.{Entry}
+use Rattle.soft_entry.specs.declared.entry.Entry.TheVariants.{Entered, Shutdown, Outside as OutsideEntry}
+use Rattle.soft_gates.specs.Gate.{Gated, gated}
+use Rattle.soft_gates.specs.declared.gates.GateUnit.{GateUnit}
+use Rattle.soft_gates.specs.declared.gates.GateUnit.TheVariants.{Finished, Halted, Outside as OutsideGate}
+use Rattle.line_kinds.specs.declared.kinds.BreachKind.{BreachKind}
+use Rattle.line_kinds.specs.declared.kinds.GLine.{GLine}
+use Rattle.line_kinds.specs.declared.kinds.GLine.TheVariants.{Enter, Int as IntLine}
+use Rattle.line_kinds.specs.declared.kinds.RLine.{RLine}
+use Rattle.line_sets.specs.LineSet.{without_line}
+use Rattle.port_map.specs.Serial.{Serial}
+use Rattle.port_map.specs.declared.owner.Owner.TheVariants.{Guest}
+use Rattle.machine_parts.specs.Processor.{unit_at, eax}
+use Rattle.machine_parts.specs.SerialLine.{byte_sent}
+use Rattle.run_lines.specs.Calls.{Call, call_in, with_call, calls_of}
+use Rattle.run_lines.specs.Says.{Sight, sight}
+use Rattle.run_lines.specs.Ticks.{at_tick, stamped, lines_to}
+use Rattle.bare_machine.specs.Calls.{breached, is_served, served_by, onward}
+use Rattle.bare_machine.specs.State.{Bare, GuestStart, UnitOutcome, Done, Calls, no_services, first_state, is_stopped, is_halted}
+use Rattle.bare_machine.specs.Tick.{com1_lines, prepared, guest_begins, tick_unit}
+use Rattle.bare_machine.specs.Run.{bare_after, bare_lines, bare_end, bare}
+use Rattle.bare_machine.specs.Unit.{enters, gates, own_gate, gate, came_to, instruction, line_to_enter, unless_entered, guest_unit, unit_lines, unit_after, breach_kind}
+
+-- no line is a call
+abbrev pub NoCall : List GLine → Type 0
+NoCall lines = filter_map call_in lines ≡ []
+
+-- a unit that makes no call and leaves no services
+abbrev pub Silent : UnitOutcome → Type 0
+Silent (Done after lines) = (after.services ≡ no_services) × NoCall lines
+Silent (Calls call place after) = ⊥
+
+breached_silent : (kind : BreachKind) (b : Bare) → b.services ≡ no_services → Silent (breached kind b)
+breached_silent kind b h = (h, refl)
+
+enters_silent : (line : GLine) (vector : ℕ) (before b : Bare) (e : Entering) (came : Entry) → NoCall (line ∷ []) → before.services ≡ no_services → b.services ≡ no_services → Silent (enters line vector before b e came)
+enters_silent line vector before b e Entered q f h = (h, q)
+enters_silent line vector before b e Shutdown q f h = (f, refl)
+enters_silent line vector before b e (OutsideEntry at) q f h = (f, refl)
+
+gates_silent : (b : Bare) (g : Gated) (came : GateUnit) → b.services ≡ no_services → Silent (gates b g came)
+gates_silent b g Finished h = (h, refl)
+gates_silent b g Halted h = (h, refl)
+gates_silent b g (OutsideGate access at) h = (h, refl)
+
+-- no function of the gate is served
+unserved : (b : Bare) (f : ℕ) → b.services ≡ no_services → is_served b.services f ≡ false
+unserved b f h = ap (λ s. is_served s f) h
+
+if_unserved : (x s : Bool) (u v : UnitOutcome) → s ≡ false → Silent v → Silent (if x && s then u else v)
+if_unserved true true u v h p = absurd cc
+if_unserved true false u v h p = p
+if_unserved false s u v h p = p
+
+gate_silent : (t number next : ℕ) (b : Bare) → b.services ≡ no_services → Silent (gate t number next b)
+gate_silent t number next b h =
+    let g = gated number next t b.registers b.soft b.side in
+    if_unserved (number == 246) (is_served b.services (eax b.registers)) (served_by t (eax b.registers) b (onward next b)) (own_gate t number next b)
+    (unserved b (eax b.registers) h) (gates_silent b g g.came h)
+
+came_silent : (t : ℕ) (e : Effect Serial) (b : Bare) (u : GuestUnit) → b.services ≡ no_services → Silent (came_to t e b u)
+came_silent t e b Next h = (h, refl)
+came_silent t e b (Enters vector push) h =
+    let n = entering vector push b.registers b.soft b.side in enters_silent (IntLine vector) vector b b n n.entry refl h h
+came_silent t e b (Gate number next) h = gate_silent t number next b h
+came_silent t e b (Breaches breach) h = breached_silent (breach_kind breach) b h
+
+if_silent : (x : Bool) (u v : UnitOutcome) → Silent u → Silent v → Silent (if x then u else v)
+if_silent true u v p q = p
+if_silent false u v p q = q
+
+instruction_silent : (t : ℕ) (b : Bare) → b.services ≡ no_services → Silent (instruction t b)
+instruction_silent t b h =
+    let e = unit_at Guest b.registers b.side b.com1 in
+    came_silent t e b (answer_to b.registers.eip (address_behind b.registers b.side) e.stepped) h
+
+unless_silent : (t : ℕ) (b : Bare) (o : Option ℕ) → b.services ≡ no_services → Silent (unless_entered t b o)
+unless_silent t b (Some n) h =
+    let e = entering (32 + n) b.registers.eip b.registers b.soft b.side in
+    enters_silent (Enter (32 + n)) (32 + n) b (record b { asked = without_line b.asked n }) e e.entry refl h h
+unless_silent t b None h = if_silent (is_halted b.mode) (Done b []) (instruction t b) (h, refl) (instruction_silent t b h)
+
+unit_silent : (t : ℕ) (b : Bare) → b.services ≡ no_services → Silent (guest_unit t b)
+unfolding guest_unit
+unit_silent t b h = if_silent (is_stopped b.mode) (Done b []) (unless_entered t b (line_to_enter b)) (h, refl) (unless_silent t b (line_to_enter b) h)
+
+prepared_services : (t : ℕ) (events : List Event) (lines_held : ℕ) (b : Bare) → (prepared t events lines_held b).services ≡ b.services
+unfolding prepared
+prepared_services t events lines_held b = refl
+
+begins_silent : (t : ℕ) (events : List Event) (holds : Bool) (lines_held : ℕ) (b : Bare) → b.services ≡ no_services → Silent (guest_begins t events holds lines_held b)
+unfolding guest_begins
+begins_silent t events holds lines_held b h =
+    let p = prepared t events lines_held b in
+    let q : p.services ≡ no_services = prepared_services t events lines_held b ∙ h in
+    if_silent holds (guest_unit t p) (Done p []) (unit_silent t p q) (q, refl)
+
+-- what a silent unit leaves, and its lines
+left : (s : Sight) (u : UnitOutcome) → Silent u → (unit_after s.answer u).services ≡ no_services
+left s (Done after lines) h = h.0
+left s (Calls call place after) h = absurd h
+
+said : (u : UnitOutcome) → Silent u → NoCall (unit_lines u)
+said (Done after lines) h = h.1
+said (Calls call place after) h = absurd h
+
+sent_silent : (o : Option ℕ) (lines : List GLine) → NoCall lines → NoCall (com1_lines o ++ lines)
+sent_silent None lines h = h
+sent_silent (Some b) lines h = h
+
+-- so after each tick, and in each tick
+services_stay : (start : GuestStart) (script : List (ℕ × Event)) (r : List (ℕ × RLine)) (k : ℕ) → start.services ≡ no_services → (bare_after start script r k).services ≡ no_services
+unfolding bare_after first_state
+services_stay start script r zero h = h
+services_stay start script r (suc k) h =
+    let b = bare_after start script r k in
+    let s = sight k r in
+    left s (tick_unit (suc k) (at_tick (suc k) script) s b) (begins_silent (suc k) (at_tick (suc k) script) s.holds s.lines_held b (services_stay start script r k h))
+
+lines_silent : (start : GuestStart) (script : List (ℕ × Event)) (r : List (ℕ × RLine)) (k : ℕ) → start.services ≡ no_services → NoCall (bare_lines start script r k)
+unfolding bare_lines
+lines_silent start script r k h =
+    let b = bare_after start script r k in
+    let s = sight k r in
+    let u = tick_unit (suc k) (at_tick (suc k) script) s b in
+    sent_silent (byte_sent b.com1) (unit_lines u) (said u (begins_silent (suc k) (at_tick (suc k) script) s.holds s.lines_held b (services_stay start script r k h)))
+
+-- the calls of lines
+with_more : (t : ℕ) (x : GLine) (xs ys : List (ℕ × GLine)) → calls_of (xs ++ ys) ≡ calls_of xs ++ calls_of ys → calls_of (((t, x) ∷ xs) ++ ys) ≡ calls_of ((t, x) ∷ xs) ++ calls_of ys
+with_more t x xs ys h = elim (call_in x) as (λ c. with_call t c (calls_of (xs ++ ys)) ≡ with_call t c (calls_of xs) ++ calls_of ys) [
+  | None ↦ h
+  | Some call ↦ ap (λ zs. (t, call) ∷ zs) h
+]
+
+calls-append : (xs ys : List (ℕ × GLine)) → calls_of (xs ++ ys) ≡ calls_of xs ++ calls_of ys
+calls-append [] ys = refl
+calls-append (x ∷ xs) ys = with_more x.0 x.1 xs ys (calls-append xs ys)
+
+-- what stands behind a call is no empty list
+first_none : (t : ℕ) (o : Option Call) (x : GLine) (xs : List GLine) → call_in x ≡ o → NoCall (x ∷ xs) → (NoCall xs → calls_of (stamped t xs) ≡ []) → with_call t o (calls_of (stamped t xs)) ≡ []
+first_none t None x xs e h rest = rest (sym (ap (λ o. cons_option o (filter_map call_in xs)) e) ∙ h)
+first_none t (Some call) x xs e h rest = absurd (let clash = sym (ap (λ o. cons_option o (filter_map call_in xs)) e) ∙ h in cc)
+
+calls-stamped : (t : ℕ) (lines : List GLine) → NoCall lines → calls_of (stamped t lines) ≡ []
+calls-stamped t [] h = refl
+calls-stamped t (x ∷ xs) h = first_none t (call_in x) x xs refl h (calls-stamped t xs)
+
+calls-to : (f : ℕ → List GLine) (n : ℕ) → ((k : ℕ) → NoCall (f k)) → calls_of (lines_to f n) ≡ []
+unfolding lines_to
+calls-to f zero h = refl
+calls-to f (suc n) h =
+    calls-append (lines_to f n) (stamped (suc n) (f n)) ∙ ap (λ xs. xs ++ calls_of (stamped (suc n) (f n))) (calls-to f n h) ∙ calls-stamped (suc n) (f n) (h n)
+
+-- the guest's lines have none
+pub no_calls : (start : GuestStart) (script : List (ℕ × Event)) (n : ℕ) (r : List (ℕ × RLine)) → start.services ≡ no_services → calls_of (bare start script n r) ≡ []
+no_calls start script n r h =
+    let b = bare_after start script r n in
+    calls-append (lines_to (bare_lines start script r) n) (stamped n (bare_end b))
+    ∙ ap (λ xs. xs ++ calls_of (stamped n (bare_end b))) (calls-to (bare_lines start script r) n (λ k. lines_silent start script r k h))
+    ∙ calls-stamped n (bare_end b) refl

@@ -1,0 +1,13 @@
+use Rattle.std.proofs.Common.{◌≡◌, take}
+use Rattle.std.specs.Prelude.{flat_map}
+use Rattle.outside_io.specs.Sink.{appended}
+use Rattle.run_output.specs.Merge.{R}
+use Rattle.rtlinux_top.specs.Lines.{piece_of}
+use Rattle.rtlinux_top.proofs.write.write_real_time.Given as goal
+
+-- the lines so far were written, and no fault came
+abbrev pub invariant-loop-line : goal.invariant-loop-line
+invariant-loop-line g l = record {
+  told : g.K.Sink.written l.sink ≡ appended (g.K.Sink.written l.initial.sink) (flat_map (λ line. piece_of (l.tick, R line)) (take l.line-index l.lines));
+  kept : g.K.Sink.faults l.sink ≡ g.K.Sink.faults l.initial.sink;
+}

@@ -1,0 +1,68 @@
+-- A run of a system without modules: its start on the real-time side, the lines of both halves, and that they are the one solution.
+use Rattle.std.specs.Prelude.{◌≡◌, ◌≤◌, ◌-◌, ℕ, Bool, false, true, List, [], ◌++◌, length, map, take, if◌then◌else◌, Option, Ok, Err}
+use Rattle.outside_io.specs.Sink.{appended}
+use Rattle.line_kinds.specs.declared.kinds.GLine.{GLine}
+use Rattle.line_kinds.specs.declared.kinds.RLine.{RLine}
+use Rattle.run_lines.specs.Calls.{calls_of}
+use Rattle.run_lines.specs.Ticks.{stamped, lines_to}
+use Rattle.run_output.specs.Merge.{AnyLine, G}
+use Rattle.run_output.specs.Output.{run_output}
+use Rattle.bare_machine.specs.Run.{bare, bare_end}
+use Rattle.priority_schedule.specs.State.{RealTimeStart}
+use Rattle.rt_core.specs.End.{quiet_end}
+use Rattle.run_files.specs.declared.run.AcceptedRun.{AcceptedRun}
+use Rattle.run_files.specs.Verdict.{Verdict}
+use Rattle.rtlinux_top.specs.Lines.{guest_on, guest_lines, bare_at, run_shown, text_of}
+use Rattle.rtlinux_top.specs.Run.{guest_start}
+use Rattle.schedule_laws.specs.Laws.{IsSolution}
+
+-- what the real-time side of a run starts from: its side behind the guest's, and no init
+abbrev pub quiet_start : AcceptedRun → RealTimeStart
+quiet_start run = record { version = 1; side = record { first = length run.sides.memory.guest; bytes = run.sides.memory.real_time }; inits = [] }
+
+-- the real-time lines of a run: the guest is on at tick 1, and the end lines
+abbrev pub real_shown : AcceptedRun → List (ℕ × RLine)
+real_shown run = guest_on ++ stamped run.ticks (quiet_end run.sides.memory.real_time)
+
+-- the guest's: those of the bare machine beside these
+abbrev pub guest_shown : AcceptedRun → List (ℕ × GLine)
+guest_shown run = bare (guest_start run) run.script.events run.ticks (real_shown run)
+
+-- they meet both equations
+abbrev pub ShowsSolution : Type 0
+ShowsSolution =
+    (run : AcceptedRun) → 1 ≤ run.ticks
+    → IsSolution (guest_start run) (quiet_start run) run.script.events run.ticks (guest_shown run) (real_shown run)
+
+-- and no others do
+abbrev pub NoOther : Type 0
+NoOther =
+    (run : AcceptedRun) → 1 ≤ run.ticks → (g : List (ℕ × GLine)) (r : List (ℕ × RLine))
+    → IsSolution (guest_start run) (quiet_start run) run.script.events run.ticks g r → (g ≡ guest_shown run) × (r ≡ real_shown run)
+
+-- the guest's lines are those that the top call's clause names
+abbrev pub ShowsGuest : Type 0
+ShowsGuest =
+    (run : AcceptedRun) → guest_shown run ≡ lines_to (guest_lines run) run.ticks ++ stamped run.ticks (bare_end (bare_at run run.ticks))
+
+-- and what it shows is the output of both machines, in its order
+abbrev pub ShowsOutput : Type 0
+ShowsOutput =
+    (run : AcceptedRun)
+    → run_shown true run ≡ run_output false (guest_start run) (quiet_start run) run.script.events run.ticks (real_shown run) (calls_of (guest_shown run))
+
+-- the guest's lines alone, without the last one, which is the digest of its side
+abbrev pub guest_alone : List (ℕ × GLine) → List (ℕ × AnyLine)
+guest_alone lines = map (λ (line : ℕ × GLine). (line.0, G line.1)) (take (length lines - 1) lines)
+
+-- what is shown of a pair of lines: the output of both machines, or the guest's lines alone
+abbrev pub shown_of : Bool → AcceptedRun → List (ℕ × GLine) → List (ℕ × RLine) → List (ℕ × AnyLine)
+shown_of both run g r =
+    if both then run_output false (guest_start run) (quiet_start run) run.script.events run.ticks r (calls_of g) else guest_alone g
+
+-- what was written for an accepted run is the text of what is shown of the one pair of lines that meets both equations
+abbrev pub WritesSolution : Bool → Verdict → Option (List ℕ) → Option (List ℕ) → Type 0
+WritesSolution both (Ok run) old new =
+    (g : List (ℕ × GLine)) × ((r : List (ℕ × RLine)) × (IsSolution (guest_start run) (quiet_start run) run.script.events run.ticks g r
+    × (new ≡ appended old (text_of (shown_of both run g r)))))
+WritesSolution both (Err about) old new = Unit {0}

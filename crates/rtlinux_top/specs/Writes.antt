@@ -1,0 +1,13 @@
+-- A run that streams its lines: what it answers.
+use Rattle.std.specs.Prelude.{◌≡◌, ◌≤◌, ℕ, List, Option, Result, Ok, Err}
+use Rattle.outside_io.specs.Causes.{Rose}
+use Rattle.outside_io.specs.Sink.{appended}
+use Rattle.rtlinux_top.specs.Causes.{AppendsPart}
+use Rattle.rtlinux_top.specs.declared.stream.RunFault.{RunFault}
+use Rattle.rtlinux_top.specs.declared.stream.RunFault.TheVariants.{NoMemory, Sink}
+
+-- all of a text was written; or a first part of it, and the sink's count of faults rose; or nothing, for want of memory
+abbrev pub Writes : {A : Type 0} → Option (List ℕ) → Option (List ℕ) → ℕ → ℕ → List ℕ → Result A RunFault → Type 0
+Writes old new before now text (Ok done) = (new ≡ appended old text) × (now ≡ before)
+Writes old new before now text (Err Sink) = (before ≤ now) × Rose before now × AppendsPart old new text
+Writes old new before now text (Err NoMemory) = (new ≡ old) × (now ≡ before)

@@ -1,0 +1,182 @@
+// Flat images. By tests/make_rows.py from the project's worked rows, computed independently of the program.
+
+use crate::Status;
+
+/// The image k.bin and the ticks of `flat`, and what comes of them.
+pub struct Flat {
+    pub name: &'static str,
+    pub ticks: &'static str,
+    pub image: &'static [u8],
+    pub status: Status,
+    pub output: &'static [u8],
+}
+
+/// Images that run.
+pub static FLAT: [Flat; 23] = [
+    Flat {
+        name: "two INCs and a jump back to them",
+        ticks: "5",
+        image: &[0x40, 0x40, 0xeb, 0xfc],
+        status: Status::Done,
+        output: b"G 5 end runs 00000002 00000002 00000004 00000000 00000000 00000000 00010000 00000000 00000000 00000000\n",
+    },
+    Flat {
+        name: "one tick",
+        ticks: "1",
+        image: &[0x40, 0x40, 0xeb, 0xfc],
+        status: Status::Done,
+        output: b"G 1 end runs 00000001 00000002 00000001 00000000 00000000 00000000 00010000 00000000 00000000 00000000\n",
+    },
+    Flat {
+        name: "a store over the end",
+        ticks: "5",
+        image: &[0xa3, 0xfc, 0xff, 0x00, 0x00, 0xa3, 0xfd, 0xff, 0x00, 0x00],
+        status: Status::Breach,
+        output: b"G 2 breach store 0000fffd\nG 5 end stopped 00000005 00000002 00000000 00000000 00000000 00000000 00010000 00000000 00000000 00000000\n",
+    },
+    Flat {
+        name: "PUSHA under address 0",
+        ticks: "3",
+        image: &[0xbc, 0x10, 0x00, 0x00, 0x00, 0x60],
+        status: Status::Breach,
+        output: b"G 2 breach store fffffffc\nG 3 end stopped 00000005 00000002 00000000 00000000 00000000 00000000 00000010 00000000 00000000 00000000\n",
+    },
+    Flat {
+        name: "CLI",
+        ticks: "2",
+        image: &[0xfa],
+        status: Status::Breach,
+        output: b"G 1 breach cli\nG 2 end stopped 00000000 00000002 00000000 00000000 00000000 00000000 00010000 00000000 00000000 00000000\n",
+    },
+    Flat {
+        name: "PUSHF behind the gate that pushes the flags",
+        ticks: "4",
+        image: &[0xcd, 0xf3, 0x58, 0x9c],
+        status: Status::Breach,
+        output: b"G 3 breach pushf\nG 4 end stopped 00000003 00000002 00000002 00000000 00000000 00000000 00010000 00000000 00000000 00000000\n",
+    },
+    Flat {
+        name: "flags that a gate pushes, with the soft flag set",
+        ticks: "3",
+        image: &[0xcd, 0xf1, 0xcd, 0xf3, 0x58],
+        status: Status::Done,
+        output: b"G 3 end runs 00000005 00000202 00000202 00000000 00000000 00000000 00010000 00000000 00000000 00000000\n",
+    },
+    Flat {
+        name: "DIV by zero without a table",
+        ticks: "2",
+        image: &[0xf7, 0xf0],
+        status: Status::Done,
+        output: b"G 1 shutdown 0\nG 2 end stopped 00000000 00000002 00000000 00000000 00000000 00000000 00010000 00000000 00000000 00000000\n",
+    },
+    Flat {
+        name: "DIV by zero into a gate of the table",
+        ticks: "6",
+        image: &[
+            0xb8, 0x01, 0x00, 0x00, 0x00, 0xbb, 0x20, 0x00, 0x00, 0x00, 0xb9, 0x01, 0x00, 0x00,
+            0x00, 0xcd, 0xf6, 0xf7, 0xf2, 0x00, 0x00, 0x00, 0x00, 0x00, 0x00, 0x00, 0x00, 0x00,
+            0x00, 0x00, 0x00, 0x00, 0x30, 0x00, 0x08, 0x00, 0x00, 0x8e, 0x00, 0x00, 0x00, 0x00,
+            0x00, 0x00, 0x00, 0x00, 0x00, 0x00, 0x58,
+        ],
+        status: Status::Done,
+        output: b"G 5 int 0\nG 6 end runs 00000031 00000002 00000011 00000001 00000000 00000020 0000fff8 00000000 00000000 00000000\n",
+    },
+    Flat {
+        name: "REP MOVS, an element a tick",
+        ticks: "3",
+        image: &[0xb1, 0x03, 0xf3, 0xa4, 0x40],
+        status: Status::Done,
+        output: b"G 3 end runs 00000002 00000002 00000000 00000001 00000000 00000000 00010000 00000000 00000002 00000002\n",
+    },
+    Flat {
+        name: "REP MOVS of no element",
+        ticks: "2",
+        image: &[0xf3, 0xa4, 0x40],
+        status: Status::Done,
+        output: b"G 2 end runs 00000003 00000002 00000001 00000000 00000000 00000000 00010000 00000000 00000000 00000000\n",
+    },
+    Flat {
+        name: "ADD that overflows",
+        ticks: "2",
+        image: &[0xb0, 0x7f, 0x04, 0x01],
+        status: Status::Done,
+        output: b"G 2 end runs 00000004 00000892 00000080 00000000 00000000 00000000 00010000 00000000 00000000 00000000\n",
+    },
+    Flat {
+        name: "SHL that carries",
+        ticks: "2",
+        image: &[0xb0, 0x81, 0xd0, 0xe0],
+        status: Status::Done,
+        output: b"G 2 end runs 00000004 00000803 00000002 00000000 00000000 00000000 00010000 00000000 00000000 00000000\n",
+    },
+    Flat {
+        name: "an empty image",
+        ticks: "1",
+        image: &[],
+        status: Status::Done,
+        output: b"G 1 end runs 00000002 00000046 00000000 00000000 00000000 00000000 00010000 00000000 00000000 00000000\n",
+    },
+    Flat {
+        name: "a jump to the last byte",
+        ticks: "2",
+        image: &[0xe9, 0xfa, 0xff, 0x00, 0x00],
+        status: Status::Breach,
+        output: b"G 2 breach fetch 00010000\nG 2 end stopped 0000ffff 00000002 00000000 00000000 00000000 00000000 00010000 00000000 00000000 00000000\n",
+    },
+    Flat {
+        name: "INT of the vector behind the gates",
+        ticks: "1",
+        image: &[0xcd, 0xf7],
+        status: Status::Breach,
+        output: b"G 1 breach int 247\nG 1 end stopped 00000000 00000002 00000000 00000000 00000000 00000000 00010000 00000000 00000000 00000000\n",
+    },
+    Flat {
+        name: "UD2",
+        ticks: "1",
+        image: &[0x0f, 0x0b],
+        status: Status::Done,
+        output: b"G 1 shutdown 6\nG 1 end stopped 00000000 00000002 00000000 00000000 00000000 00000000 00010000 00000000 00000000 00000000\n",
+    },
+    Flat {
+        name: "a byte over COM1",
+        ticks: "36",
+        image: &[0xb0, 0x41, 0x66, 0xba, 0xf8, 0x03, 0xee, 0xeb, 0xfe],
+        status: Status::Done,
+        output: b"G 36 com1 41\nG 36 end runs 00000007 00000002 00000041 00000000 000003f8 00000000 00010000 00000000 00000000 00000000\n",
+    },
+    Flat {
+        name: "the gate that sets the soft flag",
+        ticks: "2",
+        image: &[0xcd, 0xf1, 0x40],
+        status: Status::Done,
+        output: b"G 2 end runs 00000003 00000202 00000001 00000000 00000000 00000000 00010000 00000000 00000000 00000000\n",
+    },
+    Flat {
+        name: "a port of COM2",
+        ticks: "2",
+        image: &[0x66, 0xba, 0xf8, 0x02, 0xec],
+        status: Status::Breach,
+        output: b"G 2 breach port 02f8\nG 2 end stopped 00000004 00000002 00000000 00000000 000002f8 00000000 00010000 00000000 00000000 00000000\n",
+    },
+    Flat {
+        name: "a port that nobody owns",
+        ticks: "2",
+        image: &[0x66, 0xba, 0xff, 0xff, 0xed],
+        status: Status::Done,
+        output: b"G 2 end runs 00000005 00000002 ffffffff 00000000 0000ffff 00000000 00010000 00000000 00000000 00000000\n",
+    },
+    Flat {
+        name: "200,001 ticks",
+        ticks: "200001",
+        image: &[0x40, 0x40, 0xeb, 0xfc],
+        status: Status::Done,
+        output: b"G 200001 end runs 00000000 00000002 000208d6 00000000 00000000 00000000 00010000 00000000 00000000 00000000\n",
+    },
+    Flat {
+        name: "a push of a gate over the end",
+        ticks: "3",
+        image: &[0xbc, 0x02, 0x00, 0x01, 0x00, 0xcd, 0xf3],
+        status: Status::Breach,
+        output: b"G 2 breach store 0000fffe\nG 3 end stopped 00000005 00000002 00000000 00000000 00000000 00000000 00010002 00000000 00000000 00000000\n",
+    },
+];
