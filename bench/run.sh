@@ -1,6 +1,7 @@
 #!/usr/bin/env bash
-# Times the built program on two images and prints ticks per second and peak memory; beside it the same loop in QEMU and
-# Bochs, one instruction at a time, where these and an assembler are installed. It builds nothing of the product.
+# Times the built program on four images and prints, for each, ticks per second of processor time, the rate as a ratio to that
+# of the loop, and peak memory; beside it the same loop in QEMU and Bochs, one instruction at a time, where these and an
+# assembler are installed. All ratios are of one run of this script. It builds nothing of the product.
 # usage: bench/run.sh [PROGRAM]
 set -euo pipefail
 cd "$(dirname "$0")/.."
@@ -9,27 +10,50 @@ program=$(realpath "${1:-crates/rtlinux_cli/out/rtlinux_cli}")
 work=$(mktemp -d)
 trap 'rm -rf "$work"' EXIT
 
-measure() {
-    python3 - "$program" "$2" "$3" "$1" <<'PY'
-import re, subprocess, sys, time
-program, image, ticks, name = sys.argv[1:]
-start = time.perf_counter()
-process = subprocess.Popen([program, "flat", image, ticks], stdout=subprocess.DEVNULL)
-peak = 0
-while process.poll() is None:
-    with open(f"/proc/{process.pid}/status") as status:
-        if (high := re.search(r"VmHWM:\s*(\d+)", status.read())):
-            peak = int(high.group(1))
-    time.sleep(0.001)
-seconds = time.perf_counter() - start
-if process.returncode != 0:
-    sys.exit(f"bench: the program ended with {process.returncode}")
-print(f"{name}: {int(ticks) / seconds / 1e6:.2f} million ticks per second, {peak} KB at most")
-PY
+# Prints the rate of NAME's emulator or image and its ratio to the loop's, which is measured first.
+report() {
+    local name=$1 rate=$2 unit=$3 rest=${4:-}
+    [ -s "$work/loop" ] || echo "$rate" > "$work/loop"
+    awk -v name="$name" -v rate="$rate" -v unit="$unit" -v loop="$(cat "$work/loop")" -v rest="$rest" \
+        'BEGIN { printf "%-46s %7.2f million %s per second, %.2f of the loop%s\n", name, rate / 1e6, unit, rate / loop, rest }'
 }
 
-measure "rtlinux, a loop of two instructions" examples/loop.bin 9000000
-measure "rtlinux, a computation in C and then a jump to itself" examples/compute/compute.bin 9000000
+# The best of three runs.
+measure() {
+    local result
+    result=$(python3 - "$program" "$2" "$ticks" <<'PY'
+import re, resource, subprocess, sys, time
+def spent():
+    usage = resource.getrusage(resource.RUSAGE_CHILDREN)
+    return usage.ru_utime + usage.ru_stime
+program, image, ticks = sys.argv[1:]
+best, peak = 0, 0
+for _ in range(3):
+    start = spent()
+    process = subprocess.Popen([program, "flat", image, ticks], stdout=subprocess.DEVNULL)
+    high = 0
+    while process.poll() is None:
+        with open(f"/proc/{process.pid}/status") as status:
+            if (found := re.search(r"VmHWM:\s*(\d+)", status.read())):
+                high = int(found.group(1))
+        time.sleep(0.001)
+    best = max(best, int(ticks) / (spent() - start))
+    peak = max(peak, high)
+    if process.returncode != 0:
+        sys.exit(f"bench: the program ended with {process.returncode}")
+print(best, peak)
+PY
+    )
+    report "$1" "${result% *}" ticks ", ${result#* } KB at most"
+}
+
+ticks=20000000
+printf '\xcd\xf5' > "$work/halted.bin"                                # the soft hlt
+printf '\xb0\x41\x66\xba\xf8\x03\xee\xeb\xfd' > "$work/sends.bin"    # out to 3F8h and a jump back to it
+measure "a loop of two instructions" examples/loop.bin
+measure "a computation in C, then a jump to itself" examples/compute/compute.bin
+measure "a halted guest: devices and lines alone" "$work/halted.bin"
+measure "writes to COM1, one line in 32 ticks" "$work/sends.bin"
 
 # A floppy disk that runs the loop so often.
 disk() {
@@ -44,41 +68,48 @@ many=60100000
 compare() {
     local name=$1
     shift
-    python3 - "$name" "$few" "$many" "$work/few.img" "$work/many.img" "$@" <<'PY'
-import subprocess, sys, time
+    local rate
+    rate=$(python3 - "$name" "$few" "$many" "$work/few.img" "$work/many.img" "$@" <<'PY'
+import resource, subprocess, sys
+def spent():
+    usage = resource.getrusage(resource.RUSAGE_CHILDREN)
+    return usage.ru_utime + usage.ru_stime
 name, few, many, few_image, many_image, *command = sys.argv[1:]
 def seconds(image):
-    start = time.perf_counter()
+    start = spent()
     words = [word.replace("DISK", image) for word in command]
     subprocess.run(words, stdin=subprocess.DEVNULL, stdout=subprocess.DEVNULL, stderr=subprocess.DEVNULL, timeout=60)
-    return time.perf_counter() - start
+    return spent() - start
 try:
     taken = seconds(many_image) - seconds(few_image)
-    count = 2 * (int(many) - int(few))
     if taken > 0.01:
-        print(f"{name}, the same loop: {count / taken / 1e6:.2f} million instructions per second")
+        print(2 * (int(many) - int(few)) / taken)
     else:
-        print(f"{name}: it didn't run the loop here")
+        print(f"{name}: it didn't run the loop here", file=sys.stderr)
 except subprocess.TimeoutExpired:
-    print(f"{name}: no end within a minute")
+    print(f"{name}: no end within a minute", file=sys.stderr)
 PY
+    )
+    [ -z "$rate" ] || report "$name, the same loop" "$rate" instructions
 }
 
 if command -v as >/dev/null && command -v ld >/dev/null; then
     disk "$few" "$work/few.img"
     disk "$many" "$work/many.img"
     if command -v qemu-system-i386 >/dev/null; then
-        single=-singlestep
-        qemu-system-i386 --help | grep -q -- -singlestep || single="-accel tcg,one-insn-per-tb=on"
+        single="-accel tcg,one-insn-per-tb=on"
+        if qemu-system-i386 --help | grep -- -singlestep > /dev/null; then
+            single=-singlestep
+        fi
         compare "QEMU, one instruction at a time" qemu-system-i386 -display none -serial none -monitor none -nodefaults \
             -device isa-debug-exit,iobase=0xf4 -drive file=DISK,format=raw,if=floppy -icount shift=0,sleep=off $single
     else
-        echo "QEMU: not installed"
+        echo "QEMU: skipped, not installed"
     fi
     if command -v bochs >/dev/null; then
         compare "Bochs" bochs -q -n "display_library: nogui" "megs: 32" "floppya: 1_44=DISK, status=inserted" "boot: floppy" \
             "romimage: file=/usr/share/seabios/bios.bin" "vgaromimage: file=/usr/share/bochs/VGABIOS-lgpl-latest"
     else
-        echo "Bochs: not installed"
+        echo "Bochs: skipped, not installed"
     fi
 fi

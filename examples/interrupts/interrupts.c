@@ -1,15 +1,9 @@
 /* A guest with a descriptor table of its own: system calls by INT 80h, and a divide error whose handler repairs the divisor
    and returns. It leaves the sum of the calls, the quotient and the number of divide errors in registers. */
 
-struct descriptor {
-    unsigned short offset_low;
-    unsigned short segment;
-    unsigned char zero;
-    unsigned char attribute;
-    unsigned short offset_high;
-};
+#include "guest.h"
 
-enum { DIVIDE_ERROR = 0, SYSTEM_CALL = 0x80, ENTRIES = 0x81, INTERRUPT_GATE = 0x8e, TRAP_GATE = 0x8f };
+enum { DIVIDE_ERROR = 0, SYSTEM_CALL = 0x80, ENTRIES = 0x81 };
 
 static struct descriptor table[ENTRIES];
 
@@ -17,22 +11,6 @@ volatile unsigned divide_errors;
 
 void divide_error(void);
 void system_call(void);
-
-static void set(int vector, void (*handler)(void), unsigned char attribute) {
-    unsigned offset = (unsigned)handler;
-    table[vector].offset_low = offset & 0xffff;
-    table[vector].segment = 8;
-    table[vector].zero = 0;
-    table[vector].attribute = attribute;
-    table[vector].offset_high = offset >> 16;
-}
-
-/* The executive's function 1: takes a descriptor table. */
-static int load_table(const struct descriptor *place, unsigned entries) {
-    int result;
-    __asm__ volatile("int $0xf6" : "=a"(result) : "0"(1), "b"(place), "c"(entries) : "memory");
-    return result;
-}
 
 /* The system call adds its two arguments. */
 static unsigned add(unsigned a, unsigned b) {
@@ -52,9 +30,9 @@ unsigned sum;
 unsigned quotient;
 
 void guest(void) {
-    set(DIVIDE_ERROR, divide_error, INTERRUPT_GATE);
-    set(SYSTEM_CALL, system_call, TRAP_GATE);
-    if (load_table(table, ENTRIES) != 0) {
+    set_descriptor(&table[DIVIDE_ERROR], divide_error, INTERRUPT_GATE);
+    set_descriptor(&table[SYSTEM_CALL], system_call, TRAP_GATE);
+    if (load_idt(table, ENTRIES) != 0) {
         return;
     }
     for (unsigned i = 1; i <= 4; i++) {

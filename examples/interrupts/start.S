@@ -1,4 +1,5 @@
 # The guest starts here, at address 0, with ESP at the end of its side.
+#include "gates.h"
     .section .start, "ax"
     .code32
     .globl _start
@@ -16,10 +17,10 @@ round:
 divide_error:
     incl divide_errors
     movl $7, %ecx
-    int $0xf2           # iret
+    int $GATE_IRET
 
 system_call:
     addl %ebx, %eax
-    int $0xf2           # iret
+    int $GATE_IRET
 
     .section .note.GNU-stack, "", @progbits

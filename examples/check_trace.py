@@ -1,0 +1,172 @@
+#!/usr/bin/env python3
+"""Asserts what the trace of an example has to be by its C source, its script and the definitions of the machine.
+
+usage: check_trace.py EXAMPLE < TRACE
+
+Nothing here comes from the program: the texts are those of the sources, a serial byte takes 32 ticks, an instruction, a gate
+or an entry takes one, and the numbers of instructions were counted in the disassembly of the kept images.
+"""
+import hashlib
+import pathlib
+import sys
+
+HERE = pathlib.Path(__file__).parent
+SIDE = 65536
+# A byte written in tick t is taken into the shift register in tick t + 1 and leaves 32 ticks later.
+WRITE_TO_LEAVE = 33
+BYTE = 32
+
+
+class Trace:
+    """The lines of a run, read as letter, tick and words."""
+
+    def __init__(self, text):
+        self.lines = []
+        for line in text.splitlines():
+            letter, tick, *words = line.split(" ")
+            self.lines.append((letter, int(tick), words))
+        ticks = [tick for _, tick, _ in self.lines]
+        equal("the ticks never fall", ticks, sorted(ticks))
+
+    def of(self, letter, name):
+        return [(tick, words[1:]) for l, tick, words in self.lines if l == letter and words[0] == name]
+
+    def entries(self):
+        return [(tick, int(words[0])) for tick, words in self.of("G", "enter")]
+
+    def halts(self):
+        return [tick for tick, _ in self.of("G", "halt")]
+
+    def sent(self):
+        """The bytes that left COM1, and their ticks."""
+        lines = self.of("G", "com1")
+        return bytes(int(words[0], 16) for _, words in lines), [tick for tick, _ in lines]
+
+    def registers(self):
+        """Of the guest's first end line: EIP EFLAGS EAX ECX EDX EBX ESP EBP ESI EDI."""
+        [(_, words)] = self.of("G", "end")
+        return words[0], [int(word, 16) for word in words[1:]]
+
+    def only(self, letter, names):
+        equal(f"the kinds of {letter} lines", {words[0] for l, _, words in self.lines if l == letter}, set(names))
+
+
+def equal(what, got, wanted):
+    if got != wanted:
+        sys.exit(f"check_trace: {what}: {got}, not {wanted}")
+
+
+def digest(side):
+    return hashlib.sha256(bytes(side)).hexdigest()
+
+
+def real_time_side(trace):
+    """Nothing happens on the real-time side: its memory is the stub CD F9 and zeros."""
+    side = bytearray(SIDE)
+    side[0:2] = b"\xcd\xf9"
+    equal("the guest is on from tick 1", trace.of("R", "on"), [(1, ["guest"])])
+    equal("no thread lives", [words for _, words in trace.of("R", "end")], [["0", "0"]])
+    equal("the real-time memory", [words for _, words in trace.of("R", "memory")], [[digest(side)]])
+    trace.only("R", ["on", "end", "memory"])
+
+
+def steps_of(start, count, step=BYTE):
+    return [start + step * i for i in range(count)]
+
+
+def first_steps(trace):
+    real_time_side(trace)
+    trace.only("G", ["com1", "halt", "end", "memory"])
+    text, ticks = trace.sent()
+    equal("the text", text, b"Hello, i386\n")
+    # Twelve instructions stand before the first write.
+    equal("the ticks of the bytes", ticks, steps_of(13 + WRITE_TO_LEAVE, len(text)))
+    # The poll takes 4 ticks and a write comes 5 ticks behind the read that saw the buffer empty.
+    written = [13, 23]
+    for leaves in ticks[:-2]:
+        poll = written[-1] + 5
+        while poll < leaves:
+            poll += 4
+        written.append(poll + 5)
+    equal("the last byte but one leaves behind the last write", ticks[-2] > written[-1], True)
+    # Behind the last write: an increment, the test, the jump and a move; then the gate. Two pops and the return follow.
+    time = written[-1] + 5
+    equal("the halt", trace.halts(), [time + 4])
+    # ECX and EDX are the ports that were named last; EFLAGS is that of the test for the text's end.
+    equal("the end", trace.registers(), ("halted", [0x1007, 0x46, time, 0x3fd, 0x3f8, 0, SIDE, 0, 0, 0]))
+    # The guest's memory: its image, and the return to the halt that the call of main has pushed; the rest is zeros.
+    image = (HERE / "first_steps/image.elf").read_bytes()
+    offset, place = (int.from_bytes(image[52 + at:56 + at], "little") for at in (4, 8))
+    size = int.from_bytes(image[52 + 16:52 + 20], "little")
+    side = bytearray(SIDE)
+    side[place:place + size] = image[offset:offset + size]
+    side[SIDE - 4:] = (0x1005).to_bytes(4, "little")
+    equal("the guest's memory", [words for _, words in trace.of("G", "memory")], [[digest(side)]])
+
+
+FIVE, NINE, SERIAL = 32 + 5, 32 + 9, 32 + 4
+
+
+def shadow_and_halt(trace):
+    real_time_side(trace)
+    trace.only("G", ["enter", "halt", "end", "memory"])
+    # The time gate of the first wait stands in the ticks 59, 63, ...: the first from 500 on is 503. The flag is set in tick
+    # 507, tick 508 is in the shadow. The handler of line 5 takes 28 ticks the first time, and then line 9 is entered.
+    # In the second wait the gate stands in 564, 568, ..., 800; sti is in 803, halt in 804, and the line is entered at once.
+    # From then on a halted guest enters in the tick of the script.
+    equal("the entries", trace.entries(),
+          [(509, FIVE), (537, NINE), (805, NINE), (1000, FIVE), (1200, NINE), (1400, FIVE)])
+    # From an entry to the next halt: 28 ticks behind line 9 for the first, 27 for the second, 30 behind line 5, and 42
+    # where the loop ends and main returns.
+    equal("the halts", trace.halts(), [804, 805 + 27, 1000 + 30, 1200 + 27, 1400 + 42])
+    # One step passed in the shadow; line 5 rose four times and was entered three times; line 9 three times each. EFLAGS is
+    # that of the last OR.
+    equal("the end", trace.registers(), ("halted", [0x1007, 6, 1 << 16 | 3 << 8 | 3, SIDE, 3 << 8, 0, SIDE, 0, 0, 0]))
+
+
+def serial_echo(trace):
+    real_time_side(trace)
+    trace.only("G", ["com1", "enter", "halt", "end", "memory"])
+    script = [line.split() for line in (HERE / "serial_echo/script").read_text().splitlines() if not line.startswith("#")]
+    received = bytes(int(byte, 16) for _, _, byte in script)
+    text, ticks = trace.sent()
+    equal("the bytes sent are those received", text, received)
+    equal("the text", text, b"RTLinuxhello\n")
+    # The fourth byte reaches the trigger; the timeout comes 128 ticks behind the last byte; six bytes come in one tick.
+    entries = [1120, 1480 + 128, 2000]
+    equal("the entries", trace.entries(), [(tick, SERIAL) for tick in entries])
+    # The first write is the 38th instruction of an entry.
+    equal("the ticks of the bytes", ticks,
+          [tick for entry, count in zip(entries, [4, 3, 6]) for tick in steps_of(entry + 38 + WRITE_TO_LEAVE, count)])
+    # Main halts in tick 50. From an entry to the next halt it takes 51 ticks and 10 for each byte.
+    equal("the halts", trace.halts(), [50] + [entry + 51 + 10 * count for entry, count in zip(entries, [4, 3, 6])])
+    # EIP is behind the halt in main, EFLAGS has the flag set, and the stack is that of main.
+    equal("the end", trace.registers(),
+          ("halted", [0x10ba, 0x246, 0, 64, 0x3f9, 0xffffffef, SIDE - 32, SIDE - 24, 0, 0]))
+
+
+def transmit(trace):
+    trace.only("G", ["com1", "enter", "halt", "end"])
+    equal("there are no R lines", [line for line in trace.lines if line[0] != "G"], [])
+    text, ticks = trace.sent()
+    equal("the text", text, b"Sent sixteen at a time, by interrupts.\n")
+    # The guest halts in tick 53 and is woken by the line that was marked before; the first write is the 31st instruction of
+    # an entry, and each further byte takes 10. No gap comes between two fills.
+    equal("the ticks of the bytes", ticks, steps_of(54 + 31 + WRITE_TO_LEAVE, len(text)))
+    # The buffer is empty where the last byte of a fill goes on into the shift register, that is where the byte before it
+    # leaves: 16, 16 and 7 bytes. The last of these entries turns the interrupt off.
+    fills = [54, ticks[14], ticks[30]]
+    off = ticks[37]
+    # The first byte of a fill goes on at once, so the line rises while the handler still writes: one more entry each, in
+    # the tick behind the handler's return, which finds nothing to do. A fill that finds the text's end takes 3 ticks more.
+    idle = [fill + 31 + 10 * (count - 1) + rest for fill, count, rest in zip(fills, [16, 16, 7], [17, 17, 20])]
+    equal("the entries", trace.entries(), [(tick, SERIAL) for tick in sorted([*fills, *idle, off])])
+    equal("the halts", trace.halts(), [53] + [tick + 29 for tick in idle] + [off + 51])
+    equal("the end", trace.registers(), ("halted", [7, 2, len(text), SIDE, 0x3f9, 0, SIDE, 0, 0, 0]))
+
+
+if __name__ == "__main__":
+    checks = {check.__name__: check for check in (first_steps, shadow_and_halt, serial_echo, transmit)}
+    if len(sys.argv) != 2 or sys.argv[1] not in checks:
+        sys.exit(f"usage: check_trace.py {'|'.join(checks)} < TRACE")
+    checks[sys.argv[1]](Trace(sys.stdin.read()))

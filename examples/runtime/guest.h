@@ -1,0 +1,119 @@
+/* What a guest in C has: the soft gates, ports, descriptors and handlers. Each gate costs one tick. */
+#ifndef GUEST_H
+#define GUEST_H
+
+#include "gates.h"
+
+/* The soft flag. */
+
+static inline void cli(void) {
+    __asm__ volatile("int %0" : : "i"(GATE_CLI) : "memory");
+}
+
+/* Where the flag was clear, the next instruction is performed before any line is entered. */
+static inline void sti(void) {
+    __asm__ volatile("int %0" : : "i"(GATE_STI) : "memory");
+}
+
+/* EFLAGS, with bit 9 equal to the flag. */
+static inline unsigned pushf(void) {
+    unsigned eflags;
+    __asm__ volatile("int %1\n\tpopl %0" : "=r"(eflags) : "i"(GATE_PUSHF) : "memory");
+    return eflags;
+}
+
+/* Takes EFLAGS, and the flag from its bit 9, with no shadow. */
+static inline void popf(unsigned eflags) {
+    __asm__ volatile("pushl %0\n\tint %1" : : "r"(eflags), "i"(GATE_POPF) : "memory", "cc");
+}
+
+/* Halts until a line is entered. With the flag clear that is for good. */
+static inline void hlt(void) {
+    __asm__ volatile("int %0" : : "i"(GATE_HLT) : "memory");
+}
+
+/* Sets the flag and halts. The halt stands in the shadow, so no line is entered between the two, and a line that was
+   marked before wakes the guest. */
+static inline void sti_and_hlt(void) {
+    __asm__ volatile("int %0\n\tint %1" : : "i"(GATE_STI), "i"(GATE_HLT) : "memory");
+}
+
+/* The calls of the executive. */
+
+/* Bit n set masks line n. All lines are masked at the start. */
+static inline void set_mask(unsigned mask) {
+    unsigned result;
+    __asm__ volatile("int %1" : "=a"(result) : "i"(GATE_CALL), "0"(CALL_SET_MASK), "b"(mask) : "memory");
+}
+
+/* The number of the tick in which the gate is performed. */
+static inline unsigned time(void) {
+    unsigned tick;
+    __asm__ volatile("int %1" : "=a"(tick) : "i"(GATE_CALL), "0"(CALL_TIME) : "memory");
+    return tick;
+}
+
+/* An entry of the table of descriptors, by the 80386 manual. */
+struct descriptor {
+    unsigned short offset_low;
+    unsigned short segment;
+    unsigned char zero;
+    unsigned char attribute;
+    unsigned short offset_high;
+};
+
+enum {
+    INTERRUPT_GATE = 0x8e,      /* present, type 0Eh: the entry clears the flag */
+    TRAP_GATE = 0x8f            /* present, type 0Fh: the entry leaves the flag */
+};
+
+static inline void set_descriptor(struct descriptor *place, void (*entry)(void), unsigned char attribute) {
+    unsigned offset = (unsigned)entry;
+    place->offset_low = offset & 0xffff;
+    place->segment = 8;
+    place->zero = 0;
+    place->attribute = attribute;
+    place->offset_high = offset >> 16;
+}
+
+/* Takes a table of at most 256 descriptors: 0, or -22 where it is too long or doesn't lie on the guest's side. */
+static inline int load_idt(const struct descriptor *place, unsigned entries) {
+    int result;
+    __asm__ volatile("int %1" : "=a"(result) : "i"(GATE_CALL), "0"(CALL_LOAD_IDT), "b"(place), "c"(entries) : "memory");
+    return result;
+}
+
+/* Ports. */
+
+static inline unsigned char inb(unsigned short port) {
+    unsigned char value;
+    __asm__ volatile("inb %1, %0" : "=a"(value) : "Nd"(port) : "memory");
+    return value;
+}
+
+static inline void outb(unsigned short port, unsigned char value) {
+    __asm__ volatile("outb %0, %1" : : "a"(value), "Nd"(port) : "memory");
+}
+
+/* Handlers, of entries.S and handlers.c. Lines 0 to 31 have the vectors 32 to 63. */
+
+enum { LINE_SERIAL = 4, VECTORS = 64 };
+
+#define VECTOR_OF_LINE(line) (32 + (line))
+
+/* What stands on the stack while a handler runs: a handler may read and change it. */
+struct frame {
+    unsigned edi, esi, ebp, esp, ebx, edx, ecx, eax;    /* as PUSHA leaves them; ESP isn't taken back */
+    unsigned vector;
+    unsigned eip, segment, eflags;                      /* as the entry pushed them */
+};
+
+typedef void (*handler)(struct frame *);
+
+/* Lets `handle` serve a vector below 64 that pushes no error code, as an interrupt gate or a trap gate. */
+void set_handler(unsigned vector, handler handle, unsigned char attribute);
+
+/* Takes the table of all vectors that have a handler; another vector below 64 is a shutdown. The same answer as load_idt. */
+int load_handlers(void);
+
+#endif
