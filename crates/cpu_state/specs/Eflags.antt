@@ -1,5 +1,5 @@
 -- EFLAGS as a word (Intel 80386 manual, section 2.3.4).
-use Rattle.std.specs.Prelude.{ℕ, ◌+◌, ◌/◌, ◌%◌, ◌^◌, ◌==◌, Bool, true, false, if◌then◌else◌}
+use Rattle.std.specs.Prelude.{ℕ, ◌+◌, ◌/◌, ◌%◌, ◌^◌, ◌==◌, Bool, if◌then◌else◌}
 use Rattle.cpu_state.specs.declared.eflags.Eflags.{Eflags}
 
 -- bit i of a word

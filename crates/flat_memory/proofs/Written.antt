@@ -1,7 +1,7 @@
 -- A write to the rest of a list, from a place on.
-use Rattle.std.proofs.Common.{◌≡◌, ℕ, ◌+◌, ◌-◌, ◌/◌, ◌%◌, ◌≤◌, List, [], ◌++◌, length, take, drop, ap, arith, ◌∙◌, append_assoc, length-drop, sym, refl, append-nil}
-use Rattle.std.proofs.lemmas.List.{take-append-drop, drop-append-le, drop-drop, take_all, drop_all}
-use borrow.Rule.Slice.PartMut.{put_mid, mid_of, post_of}
+use Rattle.std.proofs.Common.{◌≡◌, ℕ, ◌+◌, ◌-◌, ◌/◌, ◌%◌, ◌≤◌, List, [], ◌++◌, length, take, drop, ap, arith, ◌∙◌, length-drop, refl, append-nil}
+use Rattle.std.proofs.lemmas.List.{drop-drop, take_all, drop_all}
+use borrow.Rule.Slice.PartMut.{put_mid}
 use Rattle.byteorder.specs.Endian.{little_bytes}
 
 -- the bytes ys were written at the start of the part from place p on

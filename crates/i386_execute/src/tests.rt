@@ -1,11 +1,17 @@
 // Units as on a real processor, and where an access lies outside.
-mod unit_rows;
+mod arithmetic;
+mod bits_and_strings;
+mod moves;
+mod stack_and_jumps;
 
 use crate::{Stepped, after, privileged, step};
+use arithmetic::ARITHMETIC;
+use bits_and_strings::BITS_AND_STRINGS;
 use cpu_state::{Access, Bus, Eflags, Privileged, Registers, Width};
+use moves::MOVES;
+use stack_and_jumps::STACK_AND_JUMPS;
 use std::alloc::Global;
 use std::test::Fail;
-use unit_rows::UNITS;
 
 /// A side of memory that is lent, with no ports.
 #[derive(Drop)]
@@ -164,8 +170,29 @@ fn agrees(row: &UnitRow) -> bool {
 }
 
 #[test]
-fn units_as_on_a_processor(rt: HostRuntime) {
-    for row in &UNITS {
+fn moves_as_on_a_processor(rt: HostRuntime) {
+    for row in &MOVES {
+        assert!(rt; agrees(row), "{:?} from {}", row.0, row.1);
+    }
+}
+
+#[test]
+fn stack_and_jumps_as_on_a_processor(rt: HostRuntime) {
+    for row in &STACK_AND_JUMPS {
+        assert!(rt; agrees(row), "{:?} from {}", row.0, row.1);
+    }
+}
+
+#[test]
+fn arithmetic_as_on_a_processor(rt: HostRuntime) {
+    for row in &ARITHMETIC {
+        assert!(rt; agrees(row), "{:?} from {}", row.0, row.1);
+    }
+}
+
+#[test]
+fn bits_and_strings_as_on_a_processor(rt: HostRuntime) {
+    for row in &BITS_AND_STRINGS {
         assert!(rt; agrees(row), "{:?} from {}", row.0, row.1);
     }
 }

@@ -1,8 +1,9 @@
-/* Prints what a real x86 processor makes of one unit, as the rows of src/tests/unit_rows.rt.
+/* Prints what a real x86 processor makes of one unit, as the rows of src/tests/PART.rt, where PART is moves, stack_and_jumps,
+   arithmetic or bits_and_strings.
 
    cc -O1 -o units tests/units.c
-   ./units         each instruction from one of three beginnings
-   ./units all     from each of them
+   ./units PART        each instruction of a part from one of three beginnings
+   ./units PART all    from each of them
 
    Each instruction runs in 32-bit mode of a 64-bit process, with the trap flag set, so that one unit is performed: one
    instruction, or one iteration of a repeated string instruction. The memory is 4096 bytes at 10000h: the instruction, and from
@@ -40,7 +41,7 @@ struct unit { const char *bytes; u32 undefined; };
 #define TESTED (PF | AF | ZF | SF | OF)
 #define SCANNED (CF | PF | AF | SF | OF)
 
-static const struct unit units[] = {
+static const struct unit moves[] = {
   /* MOV, LEA, MOVZX, MOVSX */
   { "8903", 0 }, { "8b4304", 0 }, { "668b4304", 0 }, { "8a6305", 0 }, { "88f5", 0 }, { "c70378563412", 0 }, { "66c7033412", 0 },
   { "b47f", 0 }, { "66b83412", 0 }, { "a100080100", 0 }, { "66a304080100", 0 }, { "a008080100", 0 }, { "2e8b448bfc", 0 },
@@ -48,6 +49,8 @@ static const struct unit units[] = {
   { "0fbec8", 0 }, { "0fbf4b02", 0 }, { "660fbe5303", 0 },
   /* XCHG, XLAT */
   { "93", 0 }, { "6691", 0 }, { "86e0", 0 }, { "874304", 0 }, { "8623", 0 }, { "90", 0 }, { "d7", 0 },
+};
+static const struct unit stack_and_jumps[] = {
   /* the stack */
   { "50", 0 }, { "54", 0 }, { "6653", 0 }, { "6878563412", 0 }, { "666a80", 0 }, { "6a80", 0 }, { "ff7304", 0 }, { "66ff33", 0 },
   { "58", 0 }, { "5c", 0 }, { "665c", 0 }, { "665a", 0 }, { "8f03", 0 }, { "8f442404", 0 }, { "668f4304", 0 }, { "60", 0 },
@@ -55,6 +58,8 @@ static const struct unit units[] = {
   /* jumps */
   { "ff23", 0 }, { "ffe2", 0 }, { "eb85", 0 }, { "e905000000", 0 }, { "7405", 0 }, { "7580", 0 }, { "0f8f00020000", 0 },
   { "e205", 0 }, { "e1f0", 0 }, { "e005", 0 }, { "e3f0", 0 },
+};
+static const struct unit arithmetic[] = {
   /* arithmetic and logic */
   { "01d8", 0 }, { "0303", 0 }, { "1143fc", 0 }, { "0483", 0 }, { "1d44332211", 0 }, { "80630480", AF }, { "834b08f0", AF },
   { "317304", AF }, { "38e0", 0 }, { "663b4b02", 0 }, { "a900800000", AF }, { "f60380", AF }, { "f00103", 0 }, { "664f", 0 },
@@ -66,6 +71,8 @@ static const struct unit units[] = {
   { "f7e1", PRODUCT }, { "f6e4", PRODUCT }, { "66f76302", PRODUCT }, { "f7e9", PRODUCT }, { "f66b01", PRODUCT }, { "0fafc8", PRODUCT },
   { "6bc8fd", PRODUCT }, { "694b0410270000", PRODUCT }, { "660faf4b02", PRODUCT }, { "f7f1", DIVIDED }, { "f6f1", DIVIDED },
   { "66f7f9", DIVIDED }, { "f67b02", DIVIDED }, { "f7f3", DIVIDED }, { "98", 0 }, { "6698", 0 }, { "99", 0 }, { "6699", 0 },
+};
+static const struct unit bits_and_strings[] = {
   /* bits */
   { "0fa3c8", TESTED }, { "0fa30b", TESTED }, { "0fab0b", TESTED }, { "660fb30b", TESTED }, { "0fbb4b10", TESTED },
   { "0fba6b0427", TESTED }, { "0fbae107", TESTED }, { "0fbcc8", SCANNED }, { "0fbd4b04", SCANNED }, { "660fbcc1", SCANNED },
@@ -75,6 +82,11 @@ static const struct unit units[] = {
   /* strings */
   { "a4", 0 }, { "66a5", 0 }, { "a6", 0 }, { "a7", 0 }, { "aa", 0 }, { "ab", 0 }, { "ac", 0 }, { "66ad", 0 }, { "ae", 0 }, { "af", 0 },
   { "f3a4", 0 }, { "f3a5", 0 }, { "f3a6", 0 }, { "f266a7", 0 }, { "f3ab", 0 }, { "f3ac", 0 }, { "f2ae", 0 }, { "f3af", 0 },
+};
+
+#define PART(rows) { #rows, rows, sizeof rows / sizeof *rows }
+static const struct part { const char *name; const struct unit *units; unsigned count; } parts[] = {
+  PART(moves), PART(stack_and_jumps), PART(arithmetic), PART(bits_and_strings),
 };
 
 static u8 *const memory = (u8 *)FIRST;
@@ -125,7 +137,8 @@ static void row(const struct unit *unit, int set) {
 }
 
 int main(int count, char **words) {
-  int all = count > 1 && !strcmp(words[1], "all");
+  int all = count > 2 && !strcmp(words[2], "all");
+  unsigned place = 0;
   static u8 stack[65536];
   stack_t alternate = { .ss_sp = stack, .ss_size = sizeof stack };
   struct sigaction action = { .sa_flags = SA_SIGINFO | SA_ONSTACK };
@@ -140,8 +153,9 @@ int main(int count, char **words) {
   sigaction(SIGFPE, &action, 0);
   sigaction(SIGSEGV, &action, 0);
   sigaction(SIGILL, &action, 0);
-  for (unsigned i = 0; i < sizeof units / sizeof *units; i++)
-    for (int set = 0; set < 3; set++)
-      if (all || set == (int)(i % 3)) row(&units[i], set);
+  for (unsigned p = 0; p < sizeof parts / sizeof *parts; p++)
+    for (unsigned i = 0; i < parts[p].count; i++, place++)
+      for (int set = 0; set < 3; set++)
+        if (count > 1 && !strcmp(words[1], parts[p].name) && (all || set == (int)(place % 3))) row(&parts[p].units[i], set);
   return 0;
 }

@@ -19,7 +19,7 @@ use Rattle.port_board.specs.declared.board.Board.{Board}
 use Rattle.machine_parts.specs.Script.{lines_of, com1_bytes}
 use Rattle.machine_parts.specs.SerialLine.{ticked, received, all_received, sampled}
 use Rattle.run_lines.specs.Says.{lines_asked}
-use Rattle.rt_core.specs.Machine.{com1_of}
+use Rattle.rt_core.specs.Machine.{com1_of, after_unit}
 
 -- line 0 and line 3
 has-nine : (n : ℕ) → has 9 n ≡ (n == 0 || n == 3)
@@ -196,10 +196,18 @@ unit_marks b new port pending same none =
     ap (λ x. union pending (minus (rises_of x) 9)) same ∙ rise_marked (rose (com1_of b) port) port b pending none
     ∙ ap (λ p. if rose (com1_of b) p then with_line pending 4 else pending) (sym (unit_port b new port same))
 
+-- the board after the unit, and after a unit that left it as it was
+pub unit_board : (b new after : Board) (port : Serial) → new ≡ accessed Guest port b → after ≡ rises_taken new → after ≡ after_unit (com1_of after) b
+unit_board b new after port same taken =
+    taken ∙ ap rises_taken same ∙ ap (λ p. after_unit p b) (sym (ap com1_of taken ∙ unit_port b new port same))
+
 -- a port that stays as it is marks nothing
 no_rise : (h : Bool) → (h && not h) ≡ false
 no_rise true = refl
 no_rise false = refl
+
+pub untouched : (b : Board) → b.rises ≡ 0 → b ≡ after_unit (com1_of b) b
+untouched b none = ap (λ r. record b { rises = r }) none ∙ ap (λ x. rises_taken (rises_at_once x 4 b)) (sym (no_rise b.com1_high))
 
 same_port : (a : Serial) (pending : ℕ) → (if rose a a then with_line pending 4 else pending) ≡ pending
 same_port a pending = rw (no_rise a.high) refl

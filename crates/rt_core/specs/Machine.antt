@@ -6,7 +6,7 @@ use Rattle.flat_memory.specs.Parts.{Parts}
 use Rattle.device_script.specs.declared.event.Event.{Event}
 use Rattle.port_map.specs.Serial.{Serial}
 use Rattle.port_map.specs.declared.owner.Owner.TheVariants.{Guest as OfGuest}
-use Rattle.port_board.specs.Board.{serial_of}
+use Rattle.port_board.specs.Board.{serial_of, accessed, rises_taken, device_step}
 use Rattle.port_board.specs.declared.board.Board.{Board}
 use Rattle.line_kinds.specs.declared.kinds.GLine.{GLine}
 use Rattle.line_kinds.specs.declared.kinds.Who.{Who}
@@ -48,6 +48,14 @@ bare_with memory registers com1 guest = record {
 
 abbrev pub bare_of : MachineParts → Bare
 bare_of m = bare_with m.memory m.registers (com1_of m.board) m.guest
+
+-- the board after a unit of the guest that leaves COM1 so: where its line rose, that is latched, and all else on the board stays
+abbrev pub after_unit : Serial → Board → Board
+after_unit com1 board = rises_taken (accessed OfGuest com1 board)
+
+-- the board after a tick with these events, whose unit leaves COM1 so
+abbrev pub board_after : List Event → Serial → Board → Board
+board_after events com1 board = after_unit com1 (device_step events board).board
 
 -- what the guest starts from
 abbrev pub start_of : Parts → ℕ → GuestStart

@@ -33,6 +33,7 @@ fn step_board(events: &[Event], board: &mut Board, pending: &mut Pending) -> Opt
     ensures com1 { com1_of board.new ≡ sampled (all_received (com1_bytes events.now) (ticked (com1_of board.old))) }
     ensures asked { pending.new ≡ union (if rose (com1_of board.old) (com1_of board.new) then with_line pending.old 4 else pending.old) (lines_asked 0 (lines_of events.now)) }
     ensures rises { rises_of board.new ≡ rises_of board.old }
+    ensures board { board.new ≡ (device_step events.now board.old).board }
     ensures byte { result ≡ byte_sent (com1_of board.old) }
 {
     let edges = board.tick(events);
@@ -48,6 +49,7 @@ pub fn devices(events: &[Event], board: &mut Board, pending: &mut Pending, lines
     ensures com1 { com1_of board.new ≡ sampled (all_received (com1_bytes events.now) (ticked (com1_of board.old))) }
     ensures asked { pending.new ≡ union (if rose (com1_of board.old) (com1_of board.new) then with_line pending.old 4 else pending.old) (lines_asked 0 (lines_of events.now)) }
     ensures rises { rises_of board.new ≡ rises_of board.old }
+    ensures board { board.new ≡ (device_step events.now board.old).board }
     ensures lines { lines.new ≡ record lines.old { g = com1_lines (byte_sent (com1_of board.old)) } }
 {
     if let Some(byte) = step_board(events, board, pending) {

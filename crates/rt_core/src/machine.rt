@@ -65,7 +65,8 @@ impl Model for Machine {
 }
 
 impl Machine {
-    ghost use Rattle.rt_core.specs.Machine.{bare_of, start_of};
+    ghost use Rattle.port_board.specs.Board.{new_board};
+    ghost use Rattle.rt_core.specs.Machine.{bare_of, start_of, com1_of, board_after};
 
     /// The machine before its first tick, with nothing on the processor. It takes all memory that a run needs.
     #[tactic(auto, unfolding(bare_machine::specs::State::first_state, machine_parts::specs::SerialLine::new_serial))]
@@ -74,6 +75,7 @@ impl Machine {
         requires script { IsScript parts.script.events }
         ensures guest { IfOk result (λ m. bare_of m ≡ first_state (start_of parts.memory parts.entry)) }
         ensures memory { IfOk result (λ m. m.memory ≡ parts.memory) }
+        ensures board { IfOk result (λ m. m.board ≡ new_board) }
         ensures on { IfOk result (λ m. m.on ≡ None) }
         ensures coming { IfOk result (λ m. m.coming ≡ parts.script.events) }
         ensures ticks { IfOk result (λ m. m.ticks ≡ zero) }
@@ -105,6 +107,7 @@ impl Machine {
         requires { self.old.ticks < 1000000000 }
         ensures guest { bare_of self.new ≡ bare_tick (self.old.ticks + 1) (at_tick (self.old.ticks + 1) self.old.coming) (sight_from self.old.on 0 lines.new.r) (bare_of self.old) }
         ensures guest_lines { lines.new.g ≡ bare_tick_lines (self.old.ticks + 1) (at_tick (self.old.ticks + 1) self.old.coming) (sight_from self.old.on 0 lines.new.r) (bare_of self.old) }
+        ensures board { self.new.board ≡ board_after (at_tick (self.old.ticks + 1) self.old.coming) (com1_of self.new.board) self.old.board }
         ensures holder { self.new.on ≡ fold held_by self.old.on lines.new.r }
         ensures picked { lines.new.r ≡ guest_picked self.old.on }
         ensures hardware { lines.new.h ≡ [] }

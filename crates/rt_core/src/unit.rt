@@ -14,7 +14,7 @@ ghost use Rattle.soft_gates.specs.Gate.{gated, WhenOutside};
 ghost use Rattle.machine_parts.specs.Processor.{unit_at};
 ghost use Rattle.bare_machine.specs.State.{Done};
 ghost use Rattle.bare_machine.specs.Unit.{int_entry, asked_entry, gate as gate_of, instruction as instruction_of, guest_unit as guest_unit_of, use_kind, access_kind, breach_kind};
-ghost use Rattle.rt_core.specs.Machine.{guest_side, com1_of, bare_with, listed};
+ghost use Rattle.rt_core.specs.Machine.{guest_side, com1_of, bare_with, after_unit, listed};
 
 use crate::Guest;
 use crate::devices::mark;
@@ -96,6 +96,7 @@ fn perform(
     ensures side { guest_side memory.new ≡ (unit_at owner.Guest registers.old (guest_side memory.old) (com1_of board.old)).bus.side }
     ensures com1 { com1_of board.new ≡ (unit_at owner.Guest registers.old (guest_side memory.old) (com1_of board.old)).bus.devices }
     ensures asked { pending.new ≡ (if rose (com1_of board.old) (com1_of board.new) then with_line pending.old 4 else pending.old) }
+    ensures board { board.new ≡ after_unit (com1_of board.new) board.old }
     ensures none_rose { rises_of board.new ≡ 0 }
     ensures real_time { memory.new.real_time ≡ memory.old.real_time }
     ensures size { length memory.new.guest ≡ length memory.old.guest }
@@ -268,6 +269,7 @@ fn instruction(
     ensures table { HasTableIn guest.new.soft (length memory.new.guest) }
     ensures size { length memory.new.guest ≡ length memory.old.guest }
     ensures real_time { memory.new.real_time ≡ memory.old.real_time }
+    ensures board { board.new ≡ after_unit (com1_of board.new) board.old }
     ensures none_rose { rises_of board.new ≡ 0 }
 {
     match perform(memory, registers, board, &mut guest.pending) {
@@ -317,6 +319,7 @@ pub fn guest_unit(
     ensures table { HasTableIn guest.new.soft (length memory.new.guest) }
     ensures size { length memory.new.guest ≡ length memory.old.guest }
     ensures real_time { memory.new.real_time ≡ memory.old.real_time }
+    ensures board { board.new ≡ after_unit (com1_of board.new) board.old }
     ensures none_rose { rises_of board.new ≡ 0 }
 {
     if guest.mode == Mode::Stopped {

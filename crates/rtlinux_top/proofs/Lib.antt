@@ -3,7 +3,6 @@ pub mod Holding
 pub mod Ran
 pub mod Streams
 pub mod Parts
-pub mod Lines
 pub mod Sight
 pub mod Silence
 pub mod Idle

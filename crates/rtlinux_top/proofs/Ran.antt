@@ -17,11 +17,14 @@ use Rattle.run_lines.specs.Ticks.{at_tick}
 use Rattle.bare_machine.specs.State.{Bare}
 use Rattle.bare_machine.specs.Run.{bare_after, bare_lines}
 use Rattle.bare_machine.specs.Tick.{bare_tick, bare_tick_lines}
+use Rattle.port_map.specs.Serial.{Serial}
+use Rattle.port_board.specs.Board.{new_board}
+use Rattle.port_board.specs.declared.board.Board.{Board}
 use Rattle.rt_core.specs.Coming.{above}
-use Rattle.rt_core.specs.Machine.{MachineParts, bare_of}
+use Rattle.rt_core.specs.Machine.{MachineParts, bare_of, com1_of, board_after}
 use Rattle.rt_core.specs.Pick.{guest_picked}
-use Rattle.rtlinux_top.specs.Last.{HasRunTo}
-use Rattle.rtlinux_top.specs.Lines.{guest_on, guest_lines}
+use Rattle.rtlinux_top.specs.Last.{HasRunTo, board_at}
+use Rattle.rtlinux_top.specs.Lines.{guest_on, guest_lines, bare_at}
 use Rattle.rtlinux_top.proofs.Holding.{holder_next, picked_at, held_none}
 
 -- before the first tick, all events of a script are to come
@@ -42,6 +45,7 @@ above_next t (e ∷ es) = let rest = above_next t es in grind (arith, nat_tests)
 pub record Ticked (old new : MachineParts) (r : List RLine) (g : List GLine) : Type 0 where
   pub guest : bare_of new ≡ bare_tick (old.ticks + 1) (at_tick (old.ticks + 1) old.coming) (sight_from old.on 0 r) (bare_of old)
   pub guest_lines : g ≡ bare_tick_lines (old.ticks + 1) (at_tick (old.ticks + 1) old.coming) (sight_from old.on 0 r) (bare_of old)
+  pub board : new.board ≡ board_after (at_tick (old.ticks + 1) old.coming) (com1_of new.board) old.board
   pub holder : new.on ≡ fold held_by old.on r
   pub picked : r ≡ guest_picked old.on
   pub coming : new.coming ≡ above (old.ticks + 1) old.coming
@@ -70,10 +74,18 @@ same_tick t e s b = λ i. bare_tick (t i) (e i) (s i) (b i)
 same_tick_lines : {t t' : ℕ} {e e' : List Event} {s s' : Sight} {b b' : Bare} → t ≡ t' → e ≡ e' → s ≡ s' → b ≡ b' → bare_tick_lines t e s b ≡ bare_tick_lines t' e' s' b'
 same_tick_lines t e s b = λ i. bare_tick_lines (t i) (e i) (s i) (b i)
 
-pub ran_next : (run : AcceptedRun) (t : ℕ) (old new : MachineParts) (r : List RLine) (g : List GLine) → HasRunTo run t old → Ticked old new r g → HasRunTo run (t + 1) new
+same_board : {e e' : List Event} {p p' : Serial} {b b' : Board} → e ≡ e' → p ≡ p' → b ≡ b' → board_after e p b ≡ board_after e' p' b'
+same_board e p b = λ i. board_after (e i) (p i) (b i)
+
+bare_next : (run : AcceptedRun) (t : ℕ) (old new : MachineParts) (r : List RLine) (g : List GLine) → HasRunTo run t old → Ticked old new r g → bare_of new ≡ bare_at run (suc t)
 unfolding bare_after
+bare_next run t old new r g before tick = tick.guest ∙ same_tick (same_count run t old before) (same_events run t old before) (same_sight run t old new r g before tick) before.bare
+
+pub ran_next : (run : AcceptedRun) (t : ℕ) (old new : MachineParts) (r : List RLine) (g : List GLine) → HasRunTo run t old → Ticked old new r g → HasRunTo run (t + 1) new
+unfolding board_at
 ran_next run t old new r g before tick = record {
-  bare = rw (add-one t) (tick.guest ∙ same_tick (same_count run t old before) (same_events run t old before) (same_sight run t old new r g before tick) before.bare);
+  bare = rw (add-one t) (bare_next run t old new r g before tick);
+  board = rw (add-one t) (tick.board ∙ same_board (same_events run t old before) (ap (λ (b : Bare). b.com1) (bare_next run t old new r g before tick)) before.board);
   on = holder_next t old.on new.on r before.on tick.picked tick.holder;
   coming = tick.coming ∙ ap (λ n. above (n + 1) old.coming) before.ticks ∙ ap (above (t + 1)) before.coming ∙ above_next t run.script.events;
   real_time = tick.real_time ∙ before.real_time;
@@ -87,14 +99,15 @@ said_g run t old new r g before tick =
 
 -- a machine that was booted ran no tick
 pub booted : (run : AcceptedRun) (m : Result MachineParts NoMemory) → IsScript run.script.events
-    → IfOk m (λ m. bare_of m ≡ first_state (guest_start run)) → IfOk m (λ m. m.memory ≡ run.sides.memory) → IfOk m (λ m. m.on ≡ None)
+    → IfOk m (λ m. bare_of m ≡ first_state (guest_start run)) → IfOk m (λ m. m.memory ≡ run.sides.memory) → IfOk m (λ m. m.board ≡ new_board) → IfOk m (λ m. m.on ≡ None)
     → IfOk m (λ m. m.coming ≡ run.script.events) → IfOk m (λ m. m.ticks ≡ 0) → IfOk m (λ m. HasRunTo run 0 m)
-unfolding bare_after holder
-booted run (Ok m) script guest memory on coming ticks = record {
+unfolding bare_after holder board_at
+booted run (Ok m) script guest memory board on coming ticks = record {
   bare = guest;
+  board = board;
   on = on;
   coming = coming ∙ sym (all_come run.script.events script.good);
   real_time = ap (λ (p : Parts). p.real_time) memory;
   ticks = ticks;
 }
-booted run (Err e) script guest memory on coming ticks = tt
+booted run (Err e) script guest memory board on coming ticks = tt

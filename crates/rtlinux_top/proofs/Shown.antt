@@ -4,6 +4,7 @@ use Rattle.memory_model.specs.Side.{Side}
 use Rattle.device_script.specs.declared.event.Event.{Event}
 use Rattle.line_kinds.specs.declared.kinds.GLine.{GLine}
 use Rattle.line_kinds.specs.declared.kinds.RLine.{RLine}
+use Rattle.run_lines.proofs.AtTick.{lines_to-same}
 use Rattle.run_lines.specs.Calls.{calls_of}
 use Rattle.run_lines.specs.Ticks.{at_tick, stamped, lines_to}
 use Rattle.run_output.specs.Merge.{AnyLine, R, G, tick_lines}
@@ -19,7 +20,6 @@ use Rattle.rtlinux_top.specs.Lines.{guest_on, guest_lines, bare_at, shown_at, ru
 use Rattle.rtlinux_top.specs.Run.{guest_start}
 use Rattle.schedule_laws.specs.Laws.{IsSolution}
 use Rattle.rtlinux_top.specs.Solution.{quiet_start, real_shown, guest_shown}
-use Rattle.rtlinux_top.proofs.Lines.{lines_to-same}
 use Rattle.rtlinux_top.proofs.Quiet.{start_on, real_after_is, real_lines_are, guest_on_to}
 use Rattle.rtlinux_top.proofs.Sight.{after_same, lines_same}
 use Rattle.rtlinux_top.proofs.Silence.{no_calls}
@@ -30,7 +30,7 @@ real_is side script zero h = absurd (omega (arith, h))
 real_is side script (suc n) h =
     let ends = λ (m : RealTime). stamped (suc n) (real_end m) in
     let m = real_after (start_on side) script [] (suc n) in
-    ap (λ ls. ls ++ ends m) (lines_to-same (real_lines (start_on side) script []) (λ k. at_tick (suc k) guest_on) (suc n) (λ k. real_lines_are side script k) ∙ guest_on_to n)
+    ap (λ ls. ls ++ ends m) (lines_to-same (real_lines (start_on side) script []) (λ k. at_tick (suc k) guest_on) (suc n) (λ k _. real_lines_are side script k) ∙ guest_on_to n)
     ∙ ap (λ x. guest_on ++ ends x) (real_after_is side script (suc n))
 
 silent : (run : AcceptedRun) → calls_of (guest_shown run) ≡ []
@@ -55,7 +55,7 @@ shows_guest run =
     let n = run.ticks in
     let d = run.sides.memory.real_time in
     let b = bare_after (guest_start run) run.script.events (real_shown run) n in
-    ap (λ ls. ls ++ stamped n (bare_end b)) (lines_to-same (bare_lines (guest_start run) run.script.events (real_shown run)) (guest_lines run) n (λ k. lines_same (guest_start run) run.script.events guest_on n d k))
+    ap (λ ls. ls ++ stamped n (bare_end b)) (lines_to-same (bare_lines (guest_start run) run.script.events (real_shown run)) (guest_lines run) n (λ k _. lines_same (guest_start run) run.script.events guest_on n d k))
     ∙ ap (λ (x : Bare). lines_to (guest_lines run) n ++ stamped n (bare_end x)) (after_same (guest_start run) run.script.events guest_on n d n)
 
 pub shows_output : (run : AcceptedRun)
@@ -71,7 +71,7 @@ shows_output run =
     let ends = λ (m : RealTime) (x : Bare). stamped n (map R (real_end m) ++ map G (bare_end x)) in
     let both : ℕ → List AnyLine = λ k. tick_lines false (real_lines start script [] k) (hardware_lines guest start script r [] k) (bare_lines guest script r k) in
     let lines : List (ℕ × AnyLine) = lines_to both n in
-    let same : lines_to (shown_at true run) n ≡ lines = lines_to-same (shown_at true run) both n (λ k.
+    let same : lines_to (shown_at true run) n ≡ lines = lines_to-same (shown_at true run) both n (λ k _.
     sym (ap (λ (ls : List RLine). tick_lines false ls [] (bare_lines guest script r k)) (real_lines_are start.side script k)
     ∙ ap (λ (ls : List GLine). tick_lines false (at_tick (suc k) guest_on) [] ls) (lines_same guest script guest_on n d k))) in
     let quiet : run_shown true run ≡ run_output false guest start script n r [] =

@@ -12,30 +12,8 @@ use Rattle.run_lines.specs.Ticks.{at_tick, stamped}
 use Rattle.bare_machine.specs.State.{GuestStart}
 use Rattle.bare_machine.specs.Run.{bare_after, bare_lines}
 use Rattle.bare_machine.specs.Tick.{bare_tick, bare_tick_lines}
-use Rattle.rtlinux_top.proofs.Lines.{at_tick-append, at_tick-stamped}
-
--- lines that a fold passes over
-fold-end : {S : Type 0} (f : S → RLine → S) (b : Bool) (ends : List RLine) → ((u : S) → fold f u ends ≡ u) → (s : S) (xs : List RLine) → fold f s (xs ++ (if b then ends else [])) ≡ fold f s xs
-fold-end f true ends quiet s xs = fold-append f s xs ends ∙ quiet (fold f s xs)
-fold-end f false ends quiet s xs = ap (fold f s) (append-nil xs)
-
--- end lines have no reply
-reply-append : (xs : List RLine) (bytes : List ℕ) → reply_in (xs ++ quiet_end bytes) ≡ reply_in xs
-reply-append [] bytes = refl
-reply-append (Com2 b ∷ xs) bytes = reply-append xs bytes
-reply-append (Release b ∷ xs) bytes = reply-append xs bytes
-reply-append (On b ∷ xs) bytes = reply-append xs bytes
-reply-append (Gate a b c ∷ xs) bytes = reply-append xs bytes
-reply-append (Say b ∷ xs) bytes = reply-append xs bytes
-reply-append (Ret ∷ xs) bytes = reply-append xs bytes
-reply-append (Fault a b ∷ xs) bytes = reply-append xs bytes
-reply-append (Reply a b ∷ xs) bytes = refl
-reply-append (End a b ∷ xs) bytes = reply-append xs bytes
-reply-append (Memory b ∷ xs) bytes = reply-append xs bytes
-
-reply-end : (b : Bool) (bytes : List ℕ) (xs : List RLine) → reply_in (xs ++ (if b then quiet_end bytes else [])) ≡ reply_in xs
-reply-end true bytes xs = reply-append xs bytes
-reply-end false bytes xs = ap reply_in (append-nil xs)
+use Rattle.run_lines.proofs.AtTick.{at_tick-append, at_tick-stamped}
+use Rattle.run_lines.proofs.Seen.{fold-if, reply-if}
 
 -- real-time lines with end lines at tick n
 abbrev pub with_end : List (ℕ × RLine) → ℕ → List ℕ → List (ℕ × RLine)
@@ -47,7 +25,7 @@ end_at r n bytes k =
 
 fold_same : {S : Type 0} (f : S → RLine → S) (r : List (ℕ × RLine)) (n : ℕ) (bytes : List ℕ) (k : ℕ) → ((u : S) → fold f u (quiet_end bytes) ≡ u) → (s : S)
     → fold f s (at_tick (suc k) (with_end r n bytes)) ≡ fold f s (at_tick (suc k) r)
-fold_same f r n bytes k quiet s = ap (fold f s) (end_at r n bytes k) ∙ fold-end f (n == suc k) (quiet_end bytes) quiet s (at_tick (suc k) r)
+fold_same f r n bytes k quiet s = ap (fold f s) (end_at r n bytes k) ∙ fold-if f s (n == suc k) (quiet_end bytes) quiet (at_tick (suc k) r)
 
 holder_same : (r : List (ℕ × RLine)) (n : ℕ) (bytes : List ℕ) (k : ℕ) → holder k (with_end r n bytes) ≡ holder k r
 unfolding holder
@@ -62,7 +40,7 @@ held_same r n bytes (suc k) =
     fold_same after_owner r n bytes k (λ u. refl) (held k (with_end r n bytes)) ∙ ap (λ (h : ℕ). fold after_owner h (at_tick (suc k) r)) (held_same r n bytes k)
 
 reply_same : (r : List (ℕ × RLine)) (n : ℕ) (bytes : List ℕ) (k : ℕ) → reply_in (at_tick (suc k) (with_end r n bytes)) ≡ reply_in (at_tick (suc k) r)
-reply_same r n bytes k = ap reply_in (end_at r n bytes k) ∙ reply-end (n == suc k) bytes (at_tick (suc k) r)
+reply_same r n bytes k = ap reply_in (end_at r n bytes k) ∙ reply-if (n == suc k) (quiet_end bytes) (at_tick (suc k) r) refl
 
 sight_parts : {w w' : Option Who} {h h' p p' : ℕ} {a a' : Answer} → w ≡ w' → h ≡ h' → p ≡ p' → a ≡ a'
     → ◌≡◌ {A = Sight} (record { holds = is_guest w; lines_held = h; lines_pended = p; answer = a }) (record { holds = is_guest w'; lines_held = h'; lines_pended = p'; answer = a' })

@@ -47,7 +47,7 @@ fn has_breach_by(before: bool, lines: &[GLine]) -> bool
 }
 
 // The machine of a run before its first tick.
-#[tactic(auto, unfolding(bare_machine::specs::Run::bare_after, run_lines::specs::Says::holder))]
+#[tactic(auto, unfolding(bare_machine::specs::Run::bare_after, run_lines::specs::Says::holder, crate::specs::Last::board_at))]
 fn boot(run: AcceptedRun) -> Result<Machine, NoMemory>
     requires { IsReady run }
     ensures { IfOk result (λ machine. HasRunTo run 0 machine) }

@@ -1,1 +1,4 @@
 pub mod Longer
+pub mod AtTick
+pub mod Seen
+mod Examples

@@ -34,8 +34,8 @@ use Rattle.priority_schedule.specs.Run.{real_after, real_lines, real_end, real_t
 use Rattle.priority_schedule.specs.State.{RealTime, RealTimeStart, first_state, thread_at, is_ready, with_thread, without, joined, priority_of}
 use Rattle.priority_schedule.specs.Tick.{begun, com2_lines, after_devices, devices, is_on, started, turned_to, picked, opened, real_time_tick}
 use Rattle.priority_schedule.specs.Unit.{RealUnit, with_registers, with_com2, performed_unit, fault_unit, return_unit, gate_answer, gate_line, printed_lines, call_unit, unit_of}
-use Rattle.schedule_laws.proofs.Sights.{IsAt, held-next}
-use Rattle.schedule_laws.proofs.TickLemmas.{run-at}
+use Rattle.run_lines.proofs.Seen.{IsAt, held-next}
+use Rattle.run_lines.proofs.AtTick.{run-at}
 use Rattle.schedule_laws.proofs.UnitCases.{Kinds, every_kind}
 
 -- does a line have a handler?

@@ -1,6 +1,4 @@
-mod TickLemmas
 mod UnitCases
-mod Sights
 mod Solutions
 mod LongerLemmas
 mod Reading

@@ -16,7 +16,7 @@ use Rattle.line_kinds.specs.declared.kinds.RLine.{RLine}
 use Rattle.schedule_laws.specs.Both.{both_after}
 use Rattle.schedule_laws.specs.Laws.{IsSolution, GoesOn}
 use Rattle.schedule_laws.proofs.Solutions.{Agrees, solution_agrees, solution_r, solution_g}
-use Rattle.schedule_laws.proofs.TickLemmas.{lines_to-same}
+use Rattle.run_lines.proofs.AtTick.{lines_to-same}
 
 -- both machines after k ticks of a solution
 machines_are : (guest : GuestStart) (start : RealTimeStart) (script : List (ℕ × Event)) (g : List (ℕ × GLine)) (r : List (ℕ × RLine)) (k : ℕ) → Agrees guest start script g r k

@@ -2,6 +2,7 @@
 use Rattle.std.proofs.Common.{◌≡◌, ℕ, zero, suc, ◌<◌, ◌≤◌, Bool, true, false, ◌==◌, refl, sym, ap, ◌∙◌, arith, List, [], ◌∷◌, ◌++◌, map, length, if◌then◌else◌, Option, Some, None, fold, filter, option_map, position, subst, is_some, get_or, count_by}
 use Rattle.std.specs.Option.{unwrap_or}
 use Rattle.std.proofs.lemmas.Bool.Decides.{nat_tests}
+use Rattle.std.proofs.lemmas.List.{append-nil}
 use Rattle.std.proofs.lemmas.List.Sums.{fold-append}
 use Rattle.std.proofs.lemmas.List.Elements.{filter-append}
 use Rattle.rt_irqs.specs.Irqs.{next_of}
@@ -26,8 +27,8 @@ use Rattle.line_kinds.specs.declared.kinds.Who.{Who}
 use Rattle.line_kinds.specs.declared.kinds.Who.TheVariants.{Guest, Thread as ThreadOn, Init, Irq, Fifo as FifoOn}
 use Rattle.schedule_laws.proofs.PickFirst.{found_first, none_first}
 use Rattle.schedule_laws.proofs.Reading.{Reads, ids, priority_in_slot, ready-ids, reads_same}
-use Rattle.schedule_laws.proofs.Sights.{IsAt, holder-next, fold-if}
-use Rattle.schedule_laws.proofs.TickLemmas.{run-at, append_nil}
+use Rattle.run_lines.proofs.Seen.{IsAt, holder-next, fold-if}
+use Rattle.run_lines.proofs.AtTick.{run-at}
 use Rattle.schedule_laws.proofs.TickReads.{who_lines, Releases, devices_read, drained_reads, unit_reads, UnitReads}
 use Rattle.schedule_laws.proofs.UnitCases.{Kinds, every_kind, quiet_unit}
 
@@ -179,7 +180,7 @@ turned_reads z s who on_is h =
       | false ↦ λ e. record {
         reads = let r = started_reads who s.real (fold after_line z s.lines) h.reads in
             subst (λ (x : Seen). Reads next x) (sym (fold-append after_line z s.lines (On who ∷ []))) (record { priorities_are = r.priorities_are; ready_are = r.ready_are; live = r.live });
-        only = filter-append is_release s.lines (On who ∷ []) ∙ append_nil (filter is_release s.lines);
+        only = filter-append is_release s.lines (On who ∷ []) ∙ append-nil (filter is_release s.lines);
         holds = fold-append held_by z.who s.lines (On who ∷ []);
         on_is = refl;
       }
@@ -251,7 +252,7 @@ acted_keeps z t call s p who r h pick_ =
     let ur : UnitReads z' u = subst (λ o. UnitReads z' (unit_of t call p.real o)) (sym h.on_is) (unit_reads t call p.real z' who who_now h.reads) in
     let after : Reads u.after (fold after_line z lines) = subst (λ (x : Seen). Reads u.after x) (sym (fold-append after_line z p.lines u.lines)) ur in
     let holds : fold held_by z.who lines ≡ Some who = fold-append held_by z.who p.lines u.lines ∙ quiet_unit (fold held_by z.who p.lines) t call p.real p.real.on ∙ h.holds in
-    let only : filter is_release lines ≡ filter is_release s.lines = filter-append is_release p.lines u.lines ∙ ap (λ xs. filter is_release p.lines ++ xs) (no_release t call p.real p.real.on) ∙ append_nil (filter is_release p.lines) ∙ h.only in
+    let only : filter is_release lines ≡ filter is_release s.lines = filter-append is_release p.lines u.lines ∙ ap (λ xs. filter is_release p.lines ++ xs) (no_release t call p.real p.real.on) ∙ append-nil (filter is_release p.lines) ∙ h.only in
     let law_z : fold after_line z (filter is_release lines) ≡ fold after_line z s.lines = ap (fold after_line z) only ∙ r.only in
     record {
       is_read = record {
@@ -284,8 +285,8 @@ unfolding seen
 seen-next r k lines b live ready digest_ h = ap (fold after_line (seen k r)) h.here ∙ fold-if after_line (seen k r) b (End live ready ∷ Memory digest_ ∷ []) (λ u. refl) lines
 
 releases-if : (b : Bool) (lines : List RLine) (live ready : ℕ) (digest_ : List ℕ) → filter is_release (lines ++ (if b then End live ready ∷ Memory digest_ ∷ [] else [])) ≡ filter is_release lines
-releases-if true lines live ready digest_ = filter-append is_release lines (End live ready ∷ Memory digest_ ∷ []) ∙ append_nil (filter is_release lines)
-releases-if false lines live ready digest_ = ap (filter is_release) (append_nil lines)
+releases-if true lines live ready digest_ = filter-append is_release lines (End live ready ∷ Memory digest_ ∷ []) ∙ append-nil (filter is_release lines)
+releases-if false lines live ready digest_ = ap (filter is_release) (append-nil lines)
 
 -- the state after k ticks is what the lines of the run say
 pub record RunRead (m : RealTime) (r : List (ℕ × RLine)) (k : ℕ) : Type 0 where

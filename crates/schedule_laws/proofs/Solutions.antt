@@ -20,8 +20,8 @@ use Rattle.line_kinds.specs.declared.kinds.RLine.{RLine}
 use Rattle.line_kinds.specs.declared.kinds.Who.{Who}
 use Rattle.schedule_laws.specs.Both.{both_call, both_real, both_sight, both_after, both_g, both_r, all_g, all_r, guest_lines}
 use Rattle.schedule_laws.specs.Laws.{IsSolution}
-use Rattle.schedule_laws.proofs.Sights.{IsAt, holder-next, held-next, sight-at, call-at}
-use Rattle.schedule_laws.proofs.TickLemmas.{run-at, lines_to-same}
+use Rattle.run_lines.proofs.Seen.{IsAt, holder-next, held-next, sight-at, call-at}
+use Rattle.run_lines.proofs.AtTick.{run-at, lines_to-same}
 use Rattle.schedule_laws.proofs.UnitCases.{quiet_unit}
 
 -- the holder after the pick is the holder of the tick

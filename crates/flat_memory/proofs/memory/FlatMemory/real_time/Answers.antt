@@ -1,4 +1,4 @@
-use Rattle.std.proofs.Common.{refl, ◌∙◌, sym, ap, arith, rules}
+use Rattle.std.proofs.Common.{refl, ◌∙◌, ap}
 use Rattle.flat_memory.specs.Lent.{with_real_time}
 use Rattle.flat_memory.proofs.Writes.{real_view, back_range}
 use Rattle.flat_memory.proofs.memory.FlatMemory.real_time.Goals as goal

@@ -3,7 +3,7 @@ use Rattle.run_lines.specs.Says.{sight_from}
 use Rattle.run_lines.specs.Ticks.{at_tick}
 use Rattle.machine_parts.specs.SerialLine.{sampled, all_received, ticked}
 use Rattle.machine_parts.specs.Script.{com1_bytes}
-use Rattle.rt_core.specs.Machine.{bare_with, com1_of, listed}
+use Rattle.rt_core.specs.Machine.{bare_with, com1_of, after_unit, board_after, listed}
 use Rattle.rt_core.specs.Pick.{guest_picked}
 use Rattle.rt_core.proofs.Ticks.{IsTick, picked, prepares, is_tick}
 use Rattle.rt_core.proofs.machine.Machine.tick.Goals as goal
@@ -22,6 +22,9 @@ invariant_of-self c =
       rw c.as_slice.ensures at c.take_events-count.ensures.coming,
     )
 
+same_events : (c : goal.After-timer) → take c.take_events-count.result c.take_events-count.new.into ≡ at_tick (c.self.inside.ticks + 1) (drop c.self.inside.next c.self.inside.script.events)
+same_events c = c.take_events-count.ensures.events ∙ ap (λ es. at_tick (c.self.inside.ticks + 1) (drop c.self.inside.next es)) c.as_slice.ensures
+
 -- the machine's tick is the bare machine's
 the_tick : (c : goal.After-timer) → let m = c.self.inside in IsTick (m.ticks + 1) (at_tick (m.ticks + 1) (drop m.next m.script.events)) (sight_from m.on 0 (guest_picked m.on))
     (bare_with m.memory m.registers (com1_of m.board) m.guest)
@@ -30,7 +33,7 @@ the_tick c =
     let m = c.self.inside in
     let t = m.ticks + 1 in
     let events = drop m.next m.script.events in
-    let same : take c.take_events-count.result c.take_events-count.new.into ≡ at_tick t events = c.take_events-count.ensures.events ∙ ap (λ es. at_tick t (drop m.next es)) c.as_slice.ensures in
+    let same = same_events c in
     let begun = prepares t (at_tick t events) m.memory m.registers (com1_of m.board) (com1_of c.devices.new.board) m.guest c.devices.new.pending
     (c.devices.ensures.com1 ∙ ap (λ es. sampled (all_received (com1_bytes es) (ticked (com1_of m.board)))) same)
     (rw (sym same) c.devices.ensures.asked) in
@@ -38,6 +41,11 @@ the_tick c =
 
 pub returns-clause-guest : goal.returns-clause-guest
 returns-clause-guest c = rw (← c.self.view_is, c.push_line.ensures, c.pick.ensures.lines) (the_tick c).state
+
+pub returns-clause-board : goal.returns-clause-board
+returns-clause-board c =
+    let port = com1_of c.guest_unit-line.new.board in
+    rw (← c.self.view_is) (c.guest_unit-line.ensures.board ∙ ap (after_unit port) c.devices.ensures.board ∙ ap (λ es. board_after es port c.self.inside.board) (same_events c))
 
 pub returns-clause-guest_lines : goal.returns-clause-guest_lines
 returns-clause-guest_lines c = rw (← c.self.view_is, c.push_line.ensures, c.pick.ensures.lines, c.devices.ensures.lines) (the_tick c).lines

@@ -1,6 +1,7 @@
 -- What the lines of a run say at each tick.
 use Rattle.std.proofs.Common.{◌≡◌, ℕ, suc, Bool, true, false, ◌==◌, refl, ap, ◌∙◌, List, [], ◌∷◌, ◌++◌, if◌then◌else◌, Option, Some, None, fold, pos}
 use Rattle.std.specs.List.{filter_map}
+use Rattle.std.proofs.lemmas.List.{append-nil}
 use Rattle.std.proofs.lemmas.List.Sums.{fold-append}
 use Rattle.std.proofs.lemmas.List.Elements.{filter_map-append}
 use Rattle.run_lines.specs.Calls.{call_in, with_call, calls_of, first_of, call_at}
@@ -10,12 +11,11 @@ use Rattle.line_kinds.specs.declared.kinds.GLine.{GLine}
 use Rattle.line_kinds.specs.declared.kinds.RLine.{RLine}
 use Rattle.line_kinds.specs.declared.kinds.RLine.TheVariants.{Com2, Release, On, Gate, Say, Ret, Fault, Reply, End, Memory}
 use Rattle.line_kinds.specs.declared.kinds.Who.{Who}
-use Rattle.schedule_laws.proofs.TickLemmas.{append_nil}
 
 -- lines that a fold passes over
 pub fold-if : {S L : Type 0} (f : S → L → S) (s : S) (b : Bool) (ends : List L) → ((u : S) → fold f u ends ≡ u) → (xs : List L) → fold f s (xs ++ (if b then ends else [])) ≡ fold f s xs
 fold-if f s true ends quiet xs = fold-append f s xs ends ∙ quiet (fold f s xs)
-fold-if f s false ends quiet xs = ap (fold f s) (append_nil xs)
+fold-if f s false ends quiet xs = ap (fold f s) (append-nil xs)
 
 -- a reply behind the lines of a tick doesn't count
 reply-append : (xs ends : List RLine) → reply_in ends ≡ record { result = pos 0; bytes = [] } → reply_in (xs ++ ends) ≡ reply_in xs
@@ -31,9 +31,9 @@ reply-append (Reply a b ∷ xs) ends e = refl
 reply-append (End a b ∷ xs) ends e = reply-append xs ends e
 reply-append (Memory b ∷ xs) ends e = reply-append xs ends e
 
-reply-if : (b : Bool) (ends xs : List RLine) → reply_in ends ≡ record { result = pos 0; bytes = [] } → reply_in (xs ++ (if b then ends else [])) ≡ reply_in xs
+pub reply-if : (b : Bool) (ends xs : List RLine) → reply_in ends ≡ record { result = pos 0; bytes = [] } → reply_in (xs ++ (if b then ends else [])) ≡ reply_in xs
 reply-if true ends xs e = reply-append xs ends e
-reply-if false ends xs e = ap reply_in (append_nil xs)
+reply-if false ends xs e = ap reply_in (append-nil xs)
 
 -- the two end lines
 abbrev pub ends_of : ℕ → ℕ → List ℕ → List RLine
@@ -77,8 +77,8 @@ calls-at t (x ∷ xs) =
     ] refl
 
 filter_map-if : (b : Bool) (ends xs : List GLine) → filter_map call_in ends ≡ [] → filter_map call_in (xs ++ (if b then ends else [])) ≡ filter_map call_in xs
-filter_map-if true ends xs e = filter_map-append call_in xs ends ∙ ap (λ zs. filter_map call_in xs ++ zs) e ∙ append_nil (filter_map call_in xs)
-filter_map-if false ends xs e = ap (filter_map call_in) (append_nil xs)
+filter_map-if true ends xs e = filter_map-append call_in xs ends ∙ ap (λ zs. filter_map call_in xs ++ zs) e ∙ append-nil (filter_map call_in xs)
+filter_map-if false ends xs e = ap (filter_map call_in) (append-nil xs)
 
 pub call-at : (g : List (ℕ × GLine)) (k : ℕ) (lines : List GLine) (b : Bool) (ends : List GLine) → filter_map call_in ends ≡ [] → at_tick (suc k) g ≡ lines ++ (if b then ends else []) → call_at (suc k) (calls_of g) ≡ first_of (filter_map call_in lines)
 call-at g k lines b ends quiet h = ap first_of (calls-at (suc k) g ∙ ap (filter_map call_in) h ∙ filter_map-if b ends lines quiet)

@@ -1,11 +1,8 @@
 -- Lines at ticks.
 use Rattle.std.proofs.Common.{◌≡◌, ℕ, zero, suc, ◌+◌, ◌<◌, ◌≤◌, ◌≢◌, true, false, eqb, ◌==◌, refl, sym, ap, ◌∙◌, arith, ⊎_elim, List, [], ◌∷◌, ◌++◌, append_assoc, if◌then◌else◌}
 use Rattle.std.proofs.lemmas.Bool.Decides.{nat_tests, eqb_tells}
+use Rattle.std.proofs.lemmas.List.{append-nil}
 use Rattle.run_lines.specs.Ticks.{at_tick, stamped, lines_to, IsPrefixOf}
-
-pub append_nil : {A : Type 0} (xs : List A) → xs ++ [] ≡ xs
-append_nil [] = refl
-append_nil (x ∷ xs) = ap (λ ys. x ∷ ys) (append_nil xs)
 
 pub at_tick-append : {A : Type 0} (t : ℕ) (xs ys : List (ℕ × A)) → at_tick t (xs ++ ys) ≡ at_tick t xs ++ at_tick t ys
 at_tick-append t [] ys = refl
@@ -57,7 +54,7 @@ lines_to-at f (suc n) k h = ⊎_elim
     at_tick-append (suc k) (lines_to f n) (stamped (suc n) (f n))
     ∙ ap (λ zs. zs ++ at_tick (suc k) (stamped (suc n) (f n))) (lines_to-at f n k below)
     ∙ ap (λ zs. f k ++ zs) (at_tick-stamped (suc k) (suc n) (f n) ∙ rw (other_eqb (suc n) (suc k) (λ q. absurd (omega (arith, q, d.1)))) refl)
-    ∙ append_nil (f k))
+    ∙ append-nil (f k))
     (eqb_tells k n)
 
 -- with end lines at the last tick
@@ -79,7 +76,7 @@ prefix_more xs ys zs p = (p.0 ++ zs, sym (append_assoc xs p.0 zs) ∙ ap (λ us.
 
 pub lines_to-prefix : {A : Type 0} (f : ℕ → List A) (n m k : ℕ) → k ≡ n + m → IsPrefixOf (lines_to f n) (lines_to f k)
 unfolding lines_to
-lines_to-prefix f n zero k e = let q : n ≡ k = omega (arith, e) in ([], append_nil (lines_to f n) ∙ ap (lines_to f) q)
+lines_to-prefix f n zero k e = let q : n ≡ k = omega (arith, e) in ([], append-nil (lines_to f n) ∙ ap (lines_to f) q)
 lines_to-prefix f n (suc m) zero e = absurd (omega (arith, e))
 lines_to-prefix f n (suc m) (suc k) e =
     prefix_more (lines_to f n) (lines_to f k) (stamped (suc k) (f k)) (lines_to-prefix f n m k (omega (arith, e)))

@@ -1,0 +1,111 @@
+-- What a tick comes to where no instruction is decoded, by computation.
+use Rattle.std.proofs.Common.{◌≡◌, ℕ, true, false, refl, List, [], ◌∷◌, Some, pos, negsuc}
+use Rattle.line_kinds.specs.declared.kinds.BreachKind.TheVariants.{Load, Store}
+use Rattle.line_kinds.specs.declared.kinds.GLine.TheVariants.{Breach, Shutdown, Halt, Com1}
+use Rattle.line_kinds.specs.declared.kinds.Mode.TheVariants.{Runs, Halted, Stopped}
+use Rattle.line_sets.specs.LineSet.{union, minus, first_in}
+use Rattle.soft_entry.specs.Entry.{entering}
+use Rattle.machine_parts.specs.Processor.{eax}
+use Rattle.machine_parts.specs.Ranges.{first_outside}
+use Rattle.run_lines.specs.Calls.{PutCall, GetCall}
+use Rattle.run_lines.specs.Says.{Answer}
+use Rattle.bare_machine.specs.Calls.{set_timer, fifo_put, fifo_get, is_served, replied}
+use Rattle.bare_machine.specs.State.{Bare, UnitOutcome, Done, Calls, all_services, no_services, first_state}
+use Rattle.bare_machine.specs.Tick.{asked_also, com1_lines, guest_begins, prepared}
+use Rattle.bare_machine.specs.Unit.{guest_unit, unit_lines, unit_after}
+
+-- a guest of four bytes that halted, of which line 5 is asked
+asleep : Bare
+asleep = record (first_state (record { bytes = 1 ∷ 2 ∷ 3 ∷ 4 ∷ []; entry = 0; size = 4; services = all_services })) { mode = Halted; asked = 32 }
+
+-- with the flag clear it sleeps on
+sleeps : guest_unit 9 asleep ≡ Done asleep []
+unfolding guest_unit asleep first_state
+sleeps = refl
+
+-- with the flag set and the line enabled it is entered, and where there is no table that is a shutdown, which leaves the line asked
+listening : Bare
+listening = record asleep { soft = record asleep.soft { flag = true; mask = 0 } }
+
+shuts_down : guest_unit 9 listening ≡ Done (record listening { mode = Stopped }) (Shutdown 37 ∷ [])
+unfolding guest_unit listening asleep first_state entering first_in minus
+shuts_down = refl
+
+-- but not with a shadow, nor where the line is masked
+under_a_shadow : guest_unit 9 (record listening { soft = record listening.soft { shadow = true } }) ≡ Done (record listening { soft = record listening.soft { shadow = true } }) []
+unfolding guest_unit listening asleep first_state
+under_a_shadow = refl
+
+masked : guest_unit 9 (record listening { soft = record listening.soft { mask = 32 } }) ≡ Done (record listening { soft = record listening.soft { mask = 32 } }) []
+unfolding guest_unit listening asleep first_state first_in minus
+masked = refl
+
+-- a stopped guest does nothing, whatever is asked
+stays_stopped : guest_unit 9 (record listening { mode = Stopped }) ≡ Done (record listening { mode = Stopped }) []
+unfolding guest_unit listening asleep first_state
+stays_stopped = refl
+
+-- and one that isn't on the processor has no unit
+waits : (t lines_held : ℕ) → guest_begins t [] false lines_held listening ≡ Done (prepared t [] lines_held listening) []
+unfolding guest_begins
+waits t lines_held = refl
+
+more_is_asked : (asked_also 3 listening).asked ≡ 35
+unfolding listening asleep first_state union
+more_is_asked = refl
+
+byte_has_its_line : com1_lines (Some 65) ≡ Com1 65 ∷ []
+byte_has_its_line = refl
+
+no_answer : Answer
+no_answer = record { result = pos 0; bytes = [] }
+
+-- the guest's registers name a FIFO, a place and a count, or a period
+naming : (ecx edx ebx : ℕ) → Bare
+naming ecx edx ebx = record asleep { registers = record asleep.registers { general = 0 ∷ ecx ∷ edx ∷ ebx ∷ 0 ∷ 0 ∷ 0 ∷ 0 ∷ [] } }
+
+-- the timer of period 10 begins in tick 7, and one above a second isn't taken
+set_in_tick_7 : set_timer 7 (naming 0 0 10) ≡ Done (record (naming 0 0 10) { timer_start = 7; timer_period = 10 }) []
+unfolding naming asleep first_state
+set_in_tick_7 = refl
+
+period_is_bounded : eax (unit_after no_answer (set_timer 7 (naming 0 0 1000000001))).registers ≡ 0xffffffea
+unfolding naming asleep first_state
+period_is_bounded = refl
+
+-- a put of bytes 2 and 3; of more than 256; and of bytes outside, which leaves what was there before
+two_bytes_put : fifo_put asleep (naming 1 2 6) ≡ Calls (PutCall 6 (2 ∷ 3 ∷ [])) 0 (naming 1 2 6)
+unfolding naming asleep first_state first_outside
+two_bytes_put = refl
+
+put_is_bounded : eax (unit_after no_answer (fifo_put asleep (naming 0 257 6))).registers ≡ 0xffffffea
+unfolding naming asleep first_state
+put_is_bounded = refl
+
+put_outside : fifo_put asleep (naming 3 2 6) ≡ Done (record asleep { mode = Stopped }) (Breach (Load 4) ∷ [])
+unfolding naming asleep first_state first_outside
+put_outside = refl
+
+-- a get of at most two bytes to address 1, and its reply
+two_bytes_asked : fifo_get asleep (naming 1 2 6) ≡ Calls (GetCall 6 2) 1 (naming 1 2 6)
+unfolding naming asleep first_state first_outside
+two_bytes_asked = refl
+
+get_outside : fifo_get asleep (naming 4 1 6) ≡ Done (record asleep { mode = Stopped }) (Breach (Store 4) ∷ [])
+unfolding naming asleep first_state first_outside
+get_outside = refl
+
+bytes_of_the_reply : (replied (GetCall 6 2) 1 (record { result = pos 2; bytes = 8 ∷ 9 ∷ 10 ∷ [] }) asleep).side.bytes ≡ 1 ∷ 8 ∷ 9 ∷ 4 ∷ []
+unfolding asleep first_state
+bytes_of_the_reply = refl
+
+result_of_the_reply : eax (replied (PutCall 6 []) 0 (record { result = negsuc 10; bytes = [] }) asleep).registers ≡ 0xfffffff5
+unfolding asleep first_state
+result_of_the_reply = refl
+
+-- functions 3 to 5 are served, 2 and 6 aren't, and none is where there are no services
+served : is_served all_services 2 ∷ is_served all_services 3 ∷ is_served all_services 4 ∷ is_served all_services 5 ∷ is_served all_services 6 ∷ [] ≡ false ∷ true ∷ true ∷ true ∷ false ∷ []
+served = refl
+
+not_served : is_served no_services 3 ∷ is_served no_services 4 ∷ is_served no_services 5 ∷ [] ≡ false ∷ false ∷ false ∷ []
+not_served = refl
