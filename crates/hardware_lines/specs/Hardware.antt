@@ -55,10 +55,11 @@ with_edges edges s = record {
   lines = s.lines ++ map Edge (filter (has edges) rising_order);
 }
 
--- the lines of the serial ports that rose from one moment to another: 4 is COM1's and 3 COM2's
+-- a line joins a set where it rises
 abbrev pub with_if : Bool → ℕ → ℕ → ℕ
 with_if rises line edges = if rises then with_line edges line else edges
 
+-- the lines of the serial ports that rose from one moment to another: 4 is COM1's and 3 COM2's
 abbrev pub ports_rose : Machines → Machines → ℕ → ℕ
 ports_rose before after edges = with_if (rose before.bare.com1 after.bare.com1) 4 (with_if (rose before.real.com2 after.real.com2) 3 edges)
 

@@ -1,4 +1,4 @@
--- What the definitions give on small states, by computation.
+-- Small states, and what the rules of docs/SCHEDULE.md give for each: the values are the rules', and the definitions compute to them.
 use Rattle.std.specs.Prelude.{◌≡◌, ℕ, true, false, [], ◌∷◌, Some, None}
 use Rattle.line_kinds.specs.declared.kinds.HLine.TheVariants.{Edge, Ack, Set}
 use Rattle.bare_machine.specs.State.{all_services, first_state as first_bare}

@@ -1,4 +1,4 @@
--- What the definitions give on small states, by computation.
+-- Small states, and what the rules of docs/SCHEDULE.md give for each: the values are the rules', and the definitions compute to them.
 use Rattle.std.specs.Prelude.{◌≡◌, ℕ, true, false, List, [], ◌∷◌, map, replicate, slice_set, Option, Some, None, option_map, ℤ, pos, negsuc}
 use Rattle.memory_model.specs.Side.{word_at}
 use Rattle.line_kinds.specs.declared.kinds.RLine.TheVariants.{Release}

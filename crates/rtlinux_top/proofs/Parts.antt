@@ -9,7 +9,7 @@ use Rattle.run_files.specs.declared.run.AcceptedRun.{AcceptedRun}
 use Rattle.run_files.specs.Line.{refusal_text}
 use Rattle.run_files.specs.Verdict.{Verdict}
 use Rattle.run_request.specs.Open.{Refuses}
-use Rattle.rtlinux_top.specs.Causes.{AppendsPart}
+use Rattle.rtlinux_top.specs.Causes.{AppendsPart, ReadFailed}
 use Rattle.rtlinux_top.specs.Verdict.{verdict_of, output_of, shows_both}
 use Rattle.rtlinux_top.specs.Words.{Asked, asked_of, texts}
 
@@ -40,28 +40,28 @@ by_file asked None why line old new P B other told wrote = tt
 by_file asked (Some files) why line old new P B other told wrote =
     λ p. inl (subst (AppendsPart old new) (line_of (shows_both asked) (verdict_of asked files) why line (told other)) wrote)
 
-by_read : (asked : Asked) (held : Option Files) (P : Type 0) (old new : Option (List ℕ)) (text : List ℕ) → AppendsPart old new text
-    → IfSome held (λ files. P → AppendsPart old new (output_of (shows_both asked) (verdict_of asked files)) ⊎ AppendsPart old new text)
-by_read asked None P old new text wrote = tt
-by_read asked (Some files) P old new text wrote = λ p. inr wrote
+by_read : (asked : Asked) (held : Option Files) (P Q : Type 0) (old new : Option (List ℕ)) (text : List ℕ) → Q → AppendsPart old new text
+    → IfSome held (λ files. P → AppendsPart old new (output_of (shows_both asked) (verdict_of asked files)) ⊎ (Q × AppendsPart old new text))
+by_read asked None P Q old new text failed wrote = tt
+by_read asked (Some files) P Q old new text failed wrote = λ p. inr (failed, wrote)
 
-refused : (asked : Asked) (held : Option Files) (why : Cause) (line last : List ℕ) (old new : Option (List ℕ)) (P : Type 0)
-    → (why ≢ cause.Read → IfSome held (λ files. Refuses (verdict_of asked files) why line)) → (why ≡ cause.Read → line ≡ refusal_text cause.Read last) → AppendsPart old new line
-    → IfSome held (λ files. P → AppendsPart old new (output_of (shows_both asked) (verdict_of asked files)) ⊎ AppendsPart old new (refusal_text cause.Read last))
-refused asked held cause.Read line last old new P told read wrote = by_read asked held P old new _ (subst (AppendsPart old new) (read refl) wrote)
-refused asked held cause.Words line last old new P told read wrote = by_file asked held _ line old new P _ (λ e. cc) told wrote
-refused asked held cause.Ticks line last old new P told read wrote = by_file asked held _ line old new P _ (λ e. cc) told wrote
-refused asked held cause.TooLarge line last old new P told read wrote = by_file asked held _ line old new P _ (λ e. cc) told wrote
-refused asked held cause.Document line last old new P told read wrote = by_file asked held _ line old new P _ (λ e. cc) told wrote
-refused asked held cause.Field line last old new P told read wrote = by_file asked held _ line old new P _ (λ e. cc) told wrote
-refused asked held (cause.Image rule) line last old new P told read wrote = by_file asked held _ line old new P _ (λ e. cc) told wrote
-refused asked held cause.Outside line last old new P told read wrote = by_file asked held _ line old new P _ (λ e. cc) told wrote
-refused asked held cause.Overlap line last old new P told read wrote = by_file asked held _ line old new P _ (λ e. cc) told wrote
-refused asked held (cause.Line number) line last old new P told read wrote = by_file asked held _ line old new P _ (λ e. cc) told wrote
+refused : (asked : Asked) (held : Option Files) (why : Cause) (line last : List ℕ) (old new : Option (List ℕ)) (P Q : Type 0)
+    → (why ≢ cause.Read → IfSome held (λ files. Refuses (verdict_of asked files) why line)) → (why ≡ cause.Read → Q × (line ≡ refusal_text cause.Read last)) → AppendsPart old new line
+    → IfSome held (λ files. P → AppendsPart old new (output_of (shows_both asked) (verdict_of asked files)) ⊎ (Q × AppendsPart old new (refusal_text cause.Read last)))
+refused asked held cause.Read line last old new P Q told read wrote = by_read asked held P Q old new _ (read refl).0 (subst (AppendsPart old new) (read refl).1 wrote)
+refused asked held cause.Words line last old new P Q told read wrote = by_file asked held _ line old new P _ (λ e. cc) told wrote
+refused asked held cause.Ticks line last old new P Q told read wrote = by_file asked held _ line old new P _ (λ e. cc) told wrote
+refused asked held cause.TooLarge line last old new P Q told read wrote = by_file asked held _ line old new P _ (λ e. cc) told wrote
+refused asked held cause.Document line last old new P Q told read wrote = by_file asked held _ line old new P _ (λ e. cc) told wrote
+refused asked held cause.Field line last old new P Q told read wrote = by_file asked held _ line old new P _ (λ e. cc) told wrote
+refused asked held (cause.Image rule) line last old new P Q told read wrote = by_file asked held _ line old new P _ (λ e. cc) told wrote
+refused asked held cause.Outside line last old new P Q told read wrote = by_file asked held _ line old new P _ (λ e. cc) told wrote
+refused asked held cause.Overlap line last old new P Q told read wrote = by_file asked held _ line old new P _ (λ e. cc) told wrote
+refused asked held (cause.Line number) line last old new P Q told read wrote = by_file asked held _ line old new P _ (λ e. cc) told wrote
 
-pub part_of_refusal : (words read : List (String Global)) (held : Option Files) (why : Cause) (line shown last : List ℕ) (old new : Option (List ℕ)) (P : Type 0) → read ≡ words → shown ≡ line
-    → (why ≢ cause.Read → IfSome held (λ files. Refuses (verdict_of (asked_of (texts read)) files) why line)) → (why ≡ cause.Read → line ≡ refusal_text cause.Read last) → AppendsPart old new shown
-    → IfSome held (λ files. P → AppendsPart old new (output_of (shows_both (asked_of (texts words))) (verdict_of (asked_of (texts words)) files)) ⊎ AppendsPart old new (refusal_text cause.Read last))
-part_of_refusal words read held why line shown last old new P same text told read_line wrote =
-    subst (λ ws. IfSome held (λ files. P → AppendsPart old new (output_of (shows_both (asked_of (texts ws))) (verdict_of (asked_of (texts ws)) files)) ⊎ AppendsPart old new (refusal_text cause.Read last))) same
-    (refused (asked_of (texts read)) held why line last old new P told read_line (subst (AppendsPart old new) text wrote))
+pub part_of_refusal : (words read : List (String Global)) (held : Option Files) (why : Cause) (line shown last : List ℕ) (old new : Option (List ℕ)) (P : Type 0) (before now : ℕ) → read ≡ words → shown ≡ line
+    → (why ≢ cause.Read → IfSome held (λ files. Refuses (verdict_of (asked_of (texts read)) files) why line)) → (why ≡ cause.Read → ReadFailed (asked_of (texts read)) held before now last × (line ≡ refusal_text cause.Read last)) → AppendsPart old new shown
+    → IfSome held (λ files. P → AppendsPart old new (output_of (shows_both (asked_of (texts words))) (verdict_of (asked_of (texts words)) files)) ⊎ (ReadFailed (asked_of (texts words)) held before now last × AppendsPart old new (refusal_text cause.Read last)))
+part_of_refusal words read held why line shown last old new P before now same text told read_line wrote =
+    subst (λ ws. IfSome held (λ files. P → AppendsPart old new (output_of (shows_both (asked_of (texts ws))) (verdict_of (asked_of (texts ws)) files)) ⊎ (ReadFailed (asked_of (texts ws)) held before now last × AppendsPart old new (refusal_text cause.Read last)))) same
+    (refused (asked_of (texts read)) held why line last old new P (ReadFailed (asked_of (texts read)) held before now last) told read_line (subst (AppendsPart old new) text wrote))

@@ -1,5 +1,6 @@
 -- When each answer comes, as far as the words alone say it.
 use Rattle.std.specs.Prelude.{◌≡◌, ◌≤◌, ℕ, List, Option, Some, None, IfSome, length, take}
+use Rattle.outside_io.specs.Causes.{Rose}
 use Rattle.outside_io.specs.Store.{Files}
 use Rattle.outside_io.specs.Sink.{appended}
 use Rattle.command_words.specs.Values.{ticks_of}
@@ -46,6 +47,10 @@ abbrev pub NamesFileOf : Asked → Option Files → List ℕ → Type 0
 NamesFileOf Unknown held name = ⊥
 NamesFileOf (Flat image word) held name = ((n : ℕ) × (ticks_of word ≡ Some n)) × (name ≡ image)
 NamesFileOf (System run) held name = ((n : ℕ) × (ticks_of run.ticks ≡ Some n)) × IfSome held (λ files. NamesFile run.system files name)
+
+-- a file of the command couldn't be read: the store's count of faults rose, and the name that failed last is that of such a file
+abbrev pub ReadFailed : Asked → Option Files → ℕ → ℕ → List ℕ → Type 0
+ReadFailed asked held before now name = Rose before now × NamesFileOf asked held name
 
 -- a first part of a text was written
 abbrev pub AppendsPart : Option (List ℕ) → Option (List ℕ) → List ℕ → Type 0

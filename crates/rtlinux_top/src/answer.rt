@@ -6,7 +6,7 @@ ghost use Rattle.run_files.specs.Line.{refusal_text};
 ghost use Rattle.rtlinux_top.specs.Status.{IsDetermined, HasRun};
 ghost use Rattle.rtlinux_top.specs.Words.{asked_of, texts, Unknown};
 ghost use Rattle.rtlinux_top.specs.Verdict.{verdict_of, shows_both, status_of, output_of, refused as refused_of};
-ghost use Rattle.rtlinux_top.specs.Causes.{NamesFileOf, RefusesTicks, AnsweredEarly, AppendsPart};
+ghost use Rattle.rtlinux_top.specs.Causes.{ReadFailed, RefusesTicks, AnsweredEarly, AppendsPart};
 ghost use Rattle.rtlinux_top.specs.Last.{KeepsRun};
 ghost use Rattle.rtlinux_top.specs.Solution.{WritesSolution};
 
@@ -31,12 +31,12 @@ fn answer<S: Store, K: Sink>(
     ensures early { IsDetermined result → AnsweredEarly (asked_of (texts words.now.items)) result }
     ensures usage { result ≡ Status.Usage → asked_of (texts words.now.items) ≡ Unknown }
     ensures ticks { result ≡ refused_of 40 0 → RefusesTicks (asked_of (texts words.now.items)) }
-    ensures read { result ≡ Status.Outside Device.Read → Rose (S.faults store.old) (S.faults store.new) × NamesFileOf (asked_of (texts words.now.items)) (S.held store.old) (S.failed_last store.new) }
+    ensures read { result ≡ Status.Outside Device.Read → ReadFailed (asked_of (texts words.now.items)) (S.held store.old) (S.faults store.old) (S.faults store.new) (S.failed_last store.new) }
     ensures read_text { result ≡ Status.Outside Device.Read → K.written sink.new ≡ appended (K.written sink.old) (refusal_text Cause.Read (S.failed_last store.new)) }
     ensures write { result ≡ Status.Outside Device.Write → Rose (K.faults sink.old) (K.faults sink.new) }
     ensures sink_fault { K.faults sink.old < K.faults sink.new → result ≡ Status.Outside Device.Write }
     ensures store_fault { S.faults store.old < S.faults store.new → (result ≡ Status.Outside Device.Read) ⊎ (result ≡ Status.Outside Device.Write) }
-    ensures after_write { IfSome (S.held store.old) (λ files. result ≡ Status.Outside Device.Write → let asked = asked_of (texts words.now.items) in AppendsPart (K.written sink.old) (K.written sink.new) (output_of (shows_both asked) (verdict_of asked files)) ⊎ AppendsPart (K.written sink.old) (K.written sink.new) (refusal_text Cause.Read (S.failed_last store.new))) }
+    ensures after_write { IfSome (S.held store.old) (λ files. result ≡ Status.Outside Device.Write → let asked = asked_of (texts words.now.items) in AppendsPart (K.written sink.old) (K.written sink.new) (output_of (shows_both asked) (verdict_of asked files)) ⊎ (ReadFailed asked (S.held store.old) (S.faults store.old) (S.faults store.new) (S.failed_last store.new) × AppendsPart (K.written sink.old) (K.written sink.new) (refusal_text Cause.Read (S.failed_last store.new)))) }
     ensures memory { result ≡ Status.NoMemory → K.written sink.new ≡ K.written sink.old }
     ensures no_rt_fault { result ≢ Status.RtFault }
     ensures kept { HasRun result → IfSome (S.held store.old) (λ files. KeepsRun (verdict_of (asked_of (texts words.now.items)) files) last.new) }
@@ -85,12 +85,12 @@ pub fn rtlinux<S: Store, K: Sink>(
     ensures ticks { result ≡ refused_of 40 0 → RefusesTicks (asked_of (texts words.now.items)) }
 
     // A fault outside comes only where its count rose, and none is passed over.
-    ensures read { result ≡ Status.Outside Device.Read → Rose (S.faults store.old) (S.faults store.new) × NamesFileOf (asked_of (texts words.now.items)) (S.held store.old) (S.failed_last store.new) }
+    ensures read { result ≡ Status.Outside Device.Read → ReadFailed (asked_of (texts words.now.items)) (S.held store.old) (S.faults store.old) (S.faults store.new) (S.failed_last store.new) }
     ensures read_text { result ≡ Status.Outside Device.Read → K.written sink.new ≡ appended (K.written sink.old) (refusal_text Cause.Read (S.failed_last store.new)) }
     ensures write { result ≡ Status.Outside Device.Write → Rose (K.faults sink.old) (K.faults sink.new) }
     ensures sink_fault { K.faults sink.old < K.faults sink.new → result ≡ Status.Outside Device.Write }
     ensures store_fault { S.faults store.old < S.faults store.new → (result ≡ Status.Outside Device.Read) ⊎ (result ≡ Status.Outside Device.Write) }
-    ensures after_write { IfSome (S.held store.old) (λ files. result ≡ Status.Outside Device.Write → let asked = asked_of (texts words.now.items) in AppendsPart (K.written sink.old) (K.written sink.new) (output_of (shows_both asked) (verdict_of asked files)) ⊎ AppendsPart (K.written sink.old) (K.written sink.new) (refusal_text Cause.Read (S.failed_last store.new))) }
+    ensures after_write { IfSome (S.held store.old) (λ files. result ≡ Status.Outside Device.Write → let asked = asked_of (texts words.now.items) in AppendsPart (K.written sink.old) (K.written sink.new) (output_of (shows_both asked) (verdict_of asked files)) ⊎ (ReadFailed asked (S.held store.old) (S.faults store.old) (S.faults store.new) (S.failed_last store.new) × AppendsPart (K.written sink.old) (K.written sink.new) (refusal_text Cause.Read (S.failed_last store.new)))) }
 
     // Want of memory writes nothing, and no real-time activity is there to fault.
     ensures memory { result ≡ Status.NoMemory → K.written sink.new ≡ K.written sink.old }

@@ -1,7 +1,8 @@
 //! Worked runs of both machines, with the lines that the definitions give by computation.
 //!
-//! The sides are small, and the processor is the one of `i386_execute`, with its own table of spellings. A row is a clause whose proof
-//! is that both sides compute to one thing.
+//! The sides are small, and the processor is the one of `i386_execute`, with its own table of spellings. The lines of each row were worked
+//! out by hand, from the machine (docs/MACHINE.md), the guest's gates (docs/GUEST.md) and the schedule (docs/SCHEDULE.md). A row is a clause
+//! whose proof is that both sides compute to one thing.
 #![tactic(auto)]
 
 mod guest;

@@ -8,5 +8,6 @@ returns-in-Run-clause-after_write g c =
 
 pub returns-in-Err-clause-after_write : goal.returns-in-Err-clause-after_write
 returns-in-Err-clause-after_write g c =
-    part_of_refusal c.args.words.now.items c.as_slice.result.now _ c.in-Refuse.cause c.in-Refuse.line _ _ _ _ _
-    c.as_slice.ensures.value c.as_bytes.ensures.text c.in-Refuse.ensures.told (λ unread. (c.in-Refuse.ensures.cause.0 unread).2) c.in-Err.ensures.2
+    part_of_refusal c.args.words.now.items c.as_slice.result.now _ c.in-Refuse.cause c.in-Refuse.line _ _ _ _ _ _ _
+    c.as_slice.ensures.value c.as_bytes.ensures.text c.in-Refuse.ensures.told
+    (λ unread. let cause = c.in-Refuse.ensures.cause.0 unread in ((cause.1, c.in-Refuse.ensures.read unread), cause.2)) c.in-Err.ensures.2
