@@ -23,7 +23,7 @@ use Rattle.run_lines.specs.Ticks.{stamped, lines_to}
 use Rattle.run_output.specs.Merge.{AnyLine, G}
 use Rattle.side_digest.specs.Digest.{digest}
 use Rattle.bare_machine.specs.Run.{end_line}
-use Rattle.rtlinux_top.specs.Lines.{text_of, guest_lines, bare_at, shown_at, shown_to, run_shown}
+use Rattle.run_stream.specs.Lines.{text_of, guest_lines, bare_at, shown_at, shown_to, run_shown}
 use Rattle.rtlinux_top.specs.Run.{flat_run}
 use Rattle.rtlinux_top.specs.Solution.{WritesSolution, guest_alone, shown_of, guest_shown, real_shown}
 use Rattle.rtlinux_top.specs.Verdict.{verdict_of, shows_both, status_of, output_of, flat_ticks, flat_in}

@@ -1,7 +1,3 @@
-pub mod Written
-pub mod Holding
-pub mod Ran
-pub mod Streams
 pub mod Parts
 pub mod Sight
 pub mod Silence

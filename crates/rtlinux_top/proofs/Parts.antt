@@ -9,7 +9,8 @@ use Rattle.run_files.specs.declared.run.AcceptedRun.{AcceptedRun}
 use Rattle.run_files.specs.Line.{refusal_text}
 use Rattle.run_files.specs.Verdict.{Verdict}
 use Rattle.run_request.specs.Open.{Refuses}
-use Rattle.rtlinux_top.specs.Causes.{AppendsPart, ReadFailed}
+use Rattle.run_stream.specs.Writes.{AppendsPart}
+use Rattle.rtlinux_top.specs.Causes.{ReadFailed}
 use Rattle.rtlinux_top.specs.Verdict.{verdict_of, output_of, shows_both}
 use Rattle.rtlinux_top.specs.Words.{Asked, asked_of, texts}
 

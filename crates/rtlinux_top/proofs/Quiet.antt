@@ -22,7 +22,7 @@ use Rattle.priority_schedule.specs.Run.{real_after, real_lines}
 use Rattle.priority_schedule.specs.State.{RealTime, RealTimeStart, first_state}
 use Rattle.priority_schedule.specs.Tick.{begun, com2_lines, marked_with, devices, turned_to, picked, acted, real_time_tick}
 use Rattle.priority_schedule.specs.Unit.{call_unit, marked_by}
-use Rattle.rtlinux_top.specs.Lines.{guest_on}
+use Rattle.run_stream.specs.Lines.{guest_on}
 use Rattle.rtlinux_top.proofs.Idle.{IsIdle, new_idle, step_idle, none_sent}
 
 -- a real-time side with nothing on it, from no init

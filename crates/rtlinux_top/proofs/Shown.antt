@@ -16,8 +16,8 @@ use Rattle.priority_schedule.specs.Run.{real_time, real_after, real_lines, real_
 use Rattle.priority_schedule.specs.State.{RealTime}
 use Rattle.rt_core.specs.End.{quiet_end}
 use Rattle.run_files.specs.declared.run.AcceptedRun.{AcceptedRun}
-use Rattle.rtlinux_top.specs.Lines.{guest_on, guest_lines, bare_at, shown_at, run_shown}
-use Rattle.rtlinux_top.specs.Run.{guest_start}
+use Rattle.run_stream.specs.Lines.{guest_on, guest_lines, bare_at, shown_at, run_shown}
+use Rattle.run_stream.specs.Start.{guest_start}
 use Rattle.schedule_laws.specs.Laws.{IsSolution}
 use Rattle.rtlinux_top.specs.Solution.{quiet_start, real_shown, guest_shown}
 use Rattle.rtlinux_top.proofs.Quiet.{start_on, real_after_is, real_lines_are, guest_on_to}

@@ -1,8 +1,7 @@
 -- When each answer comes, as far as the words alone say it.
-use Rattle.std.specs.Prelude.{◌≡◌, ◌≤◌, ℕ, List, Option, Some, None, IfSome, length, take}
+use Rattle.std.specs.Prelude.{◌≡◌, ℕ, List, Option, Some, None, IfSome}
 use Rattle.outside_io.specs.Causes.{Rose}
 use Rattle.outside_io.specs.Store.{Files}
-use Rattle.outside_io.specs.Sink.{appended}
 use Rattle.command_words.specs.Values.{ticks_of}
 use Rattle.run_files.specs.declared.cause.Cause.{Cause}
 use Rattle.run_files.specs.declared.cause.Cause.TheVariants.{Words, Ticks}
@@ -51,7 +50,3 @@ NamesFileOf (System run) held name = ((n : ℕ) × (ticks_of run.ticks ≡ Some 
 -- a file of the command couldn't be read: the store's count of faults rose, and the name that failed last is that of such a file
 abbrev pub ReadFailed : Asked → Option Files → ℕ → ℕ → List ℕ → Type 0
 ReadFailed asked held before now name = Rose before now × NamesFileOf asked held name
-
--- a first part of a text was written
-abbrev pub AppendsPart : Option (List ℕ) → Option (List ℕ) → List ℕ → Type 0
-AppendsPart old new text = (k : ℕ) × (k ≤ length text) × (new ≡ appended old (take k text))

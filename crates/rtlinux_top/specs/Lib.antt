@@ -1,10 +1,8 @@
 pub mod Status
 pub mod Words
 pub mod Verdict
-pub mod Lines
 pub mod Run
 pub mod Request
-pub mod Writes
 pub mod Causes
 pub mod Last
 pub mod Solution

@@ -1,11 +1,9 @@
--- The run of a command: what the guest starts from, and how much of it is shown.
+-- The run of `flat`.
 use Rattle.std.specs.Prelude.{ℕ, List, [], ◌++◌, length, drop}
 use Rattle.flat_memory.specs.Zeros.{zeros}
-use Rattle.bare_machine.specs.State.{GuestStart}
 use Rattle.run_files.specs.declared.run.AcceptedRun.{AcceptedRun}
 use Rattle.run_memory.specs.declared.sides.Sides.{Sides}
 use Rattle.run_memory.specs.Stub.{stub_stored}
-use Rattle.rt_core.specs.Machine.{start_of}
 
 -- what `flat` starts: two sides of 65,536 bytes, the image at address 0 with zeros behind it, the stub on the other side, and the entry 0
 unfoldable pub flat_sides : List ℕ → Sides
@@ -17,7 +15,3 @@ flat_sides image = record {
 -- its run, without a script
 abbrev pub flat_run : List ℕ → ℕ → AcceptedRun
 flat_run image ticks = record { sides = flat_sides image; script = record { events = [] }; ticks = ticks }
-
--- what the guest of a run starts from
-abbrev pub guest_start : AcceptedRun → GuestStart
-guest_start run = start_of run.sides.memory run.sides.entry

@@ -12,8 +12,8 @@ use Rattle.priority_schedule.specs.State.{RealTimeStart}
 use Rattle.rt_core.specs.End.{quiet_end}
 use Rattle.run_files.specs.declared.run.AcceptedRun.{AcceptedRun}
 use Rattle.run_files.specs.Verdict.{Verdict}
-use Rattle.rtlinux_top.specs.Lines.{guest_on, guest_lines, bare_at, run_shown, text_of}
-use Rattle.rtlinux_top.specs.Run.{guest_start}
+use Rattle.run_stream.specs.Lines.{guest_on, guest_lines, bare_at, run_shown, text_of}
+use Rattle.run_stream.specs.Start.{guest_start}
 use Rattle.schedule_laws.specs.Laws.{IsSolution}
 
 -- what the real-time side of a run starts from: its side behind the guest's, and no init

@@ -10,7 +10,7 @@ use Rattle.run_files.specs.Verdict.{Verdict, made, named, run_verdict}
 use Rattle.rtlinux_top.specs.declared.status.Status.{Status}
 use Rattle.rtlinux_top.specs.declared.status.Status.TheVariants.{Done, Refused, Outside, Breach, Usage}
 use Rattle.rtlinux_top.specs.declared.status.Device.TheVariants.{Read}
-use Rattle.rtlinux_top.specs.Lines.{run_shown, has_breach, text_of}
+use Rattle.run_stream.specs.Lines.{run_shown, has_breach, text_of}
 use Rattle.rtlinux_top.specs.Run.{flat_run}
 use Rattle.rtlinux_top.specs.Words.{Asked, Unknown, Flat, System}
 

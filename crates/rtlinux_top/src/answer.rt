@@ -6,7 +6,8 @@ ghost use Rattle.run_files.specs.Line.{refusal_text};
 ghost use Rattle.rtlinux_top.specs.Status.{IsDetermined, HasRun};
 ghost use Rattle.rtlinux_top.specs.Words.{asked_of, texts, Unknown};
 ghost use Rattle.rtlinux_top.specs.Verdict.{verdict_of, shows_both, status_of, output_of, refused as refused_of};
-ghost use Rattle.rtlinux_top.specs.Causes.{ReadFailed, RefusesTicks, AnsweredEarly, AppendsPart};
+ghost use Rattle.rtlinux_top.specs.Causes.{ReadFailed, RefusesTicks, AnsweredEarly};
+ghost use Rattle.run_stream.specs.Writes.{AppendsPart};
 ghost use Rattle.rtlinux_top.specs.Last.{KeepsRun};
 ghost use Rattle.rtlinux_top.specs.Solution.{WritesSolution};
 

@@ -8,8 +8,6 @@ mod memory;
 mod request;
 mod run;
 mod status;
-mod stream;
-mod write;
 
 pub use answer::rtlinux;
 pub use last::Last;

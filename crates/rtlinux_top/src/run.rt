@@ -5,14 +5,14 @@ ghost use Rattle.outside_io.specs.Sink.{appended};
 ghost use Rattle.run_request.specs.Open.{IsReady};
 ghost use Rattle.rtlinux_top.specs.Status.{IsDetermined, HasRun};
 ghost use Rattle.rtlinux_top.specs.Verdict.{status_of, output_of, refused as refused_of};
-ghost use Rattle.rtlinux_top.specs.Causes.{AppendsPart};
+ghost use Rattle.run_stream.specs.Writes.{AppendsPart};
 ghost use Rattle.rtlinux_top.specs.Last.{IsRun};
 
 use crate::last::Last;
 use crate::status::{Device, Status};
-use crate::stream::{RunFault, run_streaming};
 use outside_io::Sink;
 use run_files::AcceptedRun;
+use run_stream::{RunFault, run_streaming};
 use std::alloc::Global;
 
 /// Runs what was accepted and writes its lines: those of both halves, or the guest's alone. The machine is kept where all ticks ran and

@@ -1,6 +1,6 @@
 use Rattle.std.proofs.Common.{take}
-use Rattle.rtlinux_top.proofs.Streams.{text-both, text-guest}
-use Rattle.rtlinux_top.proofs.write.write_ends.Goals as goal
+use Rattle.run_stream.proofs.Streams.{text-both, text-guest}
+use Rattle.run_stream.proofs.write.write_ends.Goals as goal
 
 pub returns-then-both : goal.returns-then-both
 returns-then-both g c = rw (c.if-both.true, ← text-both c.args.tick c.args.ends.now.r c.args.ends.now.g) c.write_both.ensures

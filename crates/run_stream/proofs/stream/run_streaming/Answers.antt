@@ -2,11 +2,11 @@ use Rattle.std.proofs.Common.{◌≡◌, [], ◌++◌, refl, ap, sym, ◌∙◌,
 use Rattle.std.specs.Prelude.{◌||◌}
 use Rattle.std.specs.List.{list_any}
 use Rattle.std.proofs.lemmas.List.{append-nil}
-use Rattle.rtlinux_top.specs.Lines.{shown_to, text_of, is_breach}
-use Rattle.rtlinux_top.proofs.Written.{fault_part}
-use Rattle.rtlinux_top.proofs.Streams.{told_first, told_next, shown_same, whole_at, whole_end, ends_same, told_end, breach_first, breach_next, breach_end}
-use Rattle.rtlinux_top.proofs.Ran.{Ticked, ran_next, said_r, said_g}
-use Rattle.rtlinux_top.proofs.stream.run_streaming.Goals as goal
+use Rattle.run_stream.specs.Lines.{shown_to, text_of, is_breach}
+use Rattle.run_stream.proofs.Written.{fault_part}
+use Rattle.run_stream.proofs.Streams.{told_first, told_next, shown_same, whole_at, whole_end, ends_same, told_end, breach_first, breach_next, breach_end}
+use Rattle.run_stream.proofs.Ran.{Ticked, ran_next, said_r, said_g}
+use Rattle.run_stream.proofs.stream.run_streaming.Goals as goal
 
 pub loop-t-init : goal.loop-t-init
 loop-t-init g c = record {

@@ -1,5 +1,5 @@
-use Rattle.rtlinux_top.proofs.Written.{puts_behind, puts_first}
-use Rattle.rtlinux_top.proofs.write.write_both.Goals as goal
+use Rattle.run_stream.proofs.Written.{puts_behind, puts_first}
+use Rattle.run_stream.proofs.write.write_both.Goals as goal
 
 pub returns-in-Ok : goal.returns-in-Ok
 returns-in-Ok g c = puts_behind (g.K.Sink.written c.args.sink.now) _ _ _ _ _ _ _ _ c.in-Ok.ensures.0 c.in-Ok.ensures.1 c.write_guest.ensures

@@ -2,8 +2,8 @@ use Rattle.std.proofs.Common.{◌≡◌, take}
 use Rattle.std.specs.Prelude.{flat_map}
 use Rattle.outside_io.specs.Sink.{appended}
 use Rattle.run_output.specs.Merge.{G}
-use Rattle.rtlinux_top.specs.Lines.{piece_of}
-use Rattle.rtlinux_top.proofs.write.write_guest.Given as goal
+use Rattle.run_stream.specs.Lines.{piece_of}
+use Rattle.run_stream.proofs.write.write_guest.Given as goal
 
 -- the lines so far were written, and no fault came
 abbrev pub invariant-loop-line : goal.invariant-loop-line

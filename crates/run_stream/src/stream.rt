@@ -2,9 +2,9 @@
 ghost use Rattle.std.specs.Prelude.{◌≡◌, ◌≤◌, ◌||◌, IfOk};
 ghost use Rattle.std.specs.List.{list_any};
 ghost use Rattle.run_request.specs.Open.{IsReady};
-ghost use Rattle.rtlinux_top.specs.Lines.{run_shown, text_of, has_breach, is_breach as breach_of};
-ghost use Rattle.rtlinux_top.specs.Last.{HasRunTo};
-ghost use Rattle.rtlinux_top.specs.Writes.{Writes};
+ghost use Rattle.run_stream.specs.Lines.{run_shown, text_of, has_breach, is_breach as breach_of};
+ghost use Rattle.run_stream.specs.Ran.{HasRunTo};
+ghost use Rattle.run_stream.specs.Writes.{Writes};
 
 use crate::write::{write_ends, write_tick};
 use outside_io::{NoMemory, Sink};
@@ -16,7 +16,9 @@ use trace_lines::{GLine, Lines};
 
 /// Why a run ends early.
 pub enum RunFault {
+    /// memory was refused, before anything was written
     NoMemory,
+    /// a line couldn't be written
     Sink,
 }
 
@@ -47,7 +49,7 @@ fn has_breach_by(before: bool, lines: &[GLine]) -> bool
 }
 
 // The machine of a run before its first tick.
-#[tactic(auto, unfolding(bare_machine::specs::Run::bare_after, run_lines::specs::Says::holder, crate::specs::Last::board_at))]
+#[tactic(auto, unfolding(bare_machine::specs::Run::bare_after, run_lines::specs::Says::holder, crate::specs::Ran::board_at))]
 fn boot(run: AcceptedRun) -> Result<Machine, NoMemory>
     requires { IsReady run }
     ensures { IfOk result (λ machine. HasRunTo run 0 machine) }

@@ -13,7 +13,7 @@ use Rattle.bare_machine.specs.State.{Bare}
 use Rattle.bare_machine.specs.Run.{bare_after, bare_lines, bare_end, end_line}
 use Rattle.rt_core.specs.End.{quiet_end}
 use Rattle.run_files.specs.declared.run.AcceptedRun.{AcceptedRun}
-use Rattle.rtlinux_top.specs.Run.{guest_start}
+use Rattle.run_stream.specs.Start.{guest_start}
 
 -- the real-time lines of a run with no real-time activity: the guest is on at tick 1
 abbrev pub guest_on : List (ℕ × RLine)

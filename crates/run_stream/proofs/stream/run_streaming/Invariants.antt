@@ -1,8 +1,8 @@
 use Rattle.std.proofs.Common.{◌≡◌}
 use Rattle.outside_io.specs.Sink.{appended}
-use Rattle.rtlinux_top.specs.Last.{HasRunTo}
-use Rattle.rtlinux_top.specs.Lines.{shown_to, text_of, has_breach}
-use Rattle.rtlinux_top.proofs.stream.run_streaming.Given as goal
+use Rattle.run_stream.specs.Ran.{HasRunTo}
+use Rattle.run_stream.specs.Lines.{shown_to, text_of, has_breach}
+use Rattle.run_stream.proofs.stream.run_streaming.Given as goal
 
 -- the machine ran the ticks so far, their lines were written, and no fault came
 abbrev pub invariant-loop-t : goal.invariant-loop-t

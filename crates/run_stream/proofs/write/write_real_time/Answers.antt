@@ -1,9 +1,9 @@
 use Rattle.std.proofs.Common.{arith, ◌∙◌, ap}
 use Rattle.line_kinds.specs.declared.kinds.RLine.{RLine}
 use Rattle.run_output.specs.Merge.{R}
-use Rattle.rtlinux_top.specs.Lines.{piece_of}
-use Rattle.rtlinux_top.proofs.Written.{fault_in}
-use Rattle.rtlinux_top.proofs.write.write_real_time.Goals as goal
+use Rattle.run_stream.specs.Lines.{piece_of}
+use Rattle.run_stream.proofs.Written.{fault_in}
+use Rattle.run_stream.proofs.write.write_real_time.Goals as goal
 
 pub returns-in-Err : goal.returns-in-Err
 returns-in-Err g c =

@@ -4,7 +4,7 @@ use Rattle.std.specs.Prelude.{fold, IfOk, Result, Ok, Err}
 use Rattle.outside_io.specs.declared.NoMemory.{NoMemory}
 use Rattle.flat_memory.specs.Parts.{Parts}
 use Rattle.bare_machine.specs.State.{first_state}
-use Rattle.rtlinux_top.specs.Run.{guest_start}
+use Rattle.run_stream.specs.Start.{guest_start}
 use Rattle.std.specs.List.{list_all}
 use Rattle.std.proofs.lemmas.Bool.Decides.{nat_tests}
 use Rattle.device_script.specs.Event.{Events, IsScript, is_event}
@@ -23,9 +23,9 @@ use Rattle.port_board.specs.declared.board.Board.{Board}
 use Rattle.rt_core.specs.Coming.{above}
 use Rattle.rt_core.specs.Machine.{MachineParts, bare_of, com1_of, board_after}
 use Rattle.rt_core.specs.Pick.{guest_picked}
-use Rattle.rtlinux_top.specs.Last.{HasRunTo, board_at}
-use Rattle.rtlinux_top.specs.Lines.{guest_on, guest_lines, bare_at}
-use Rattle.rtlinux_top.proofs.Holding.{holder_next, picked_at, held_none}
+use Rattle.run_stream.specs.Ran.{HasRunTo, board_at}
+use Rattle.run_stream.specs.Lines.{guest_on, guest_lines, bare_at}
+use Rattle.run_stream.proofs.Holding.{holder_next, picked_at, held_none}
 
 -- before the first tick, all events of a script are to come
 pub all_come : (events : Events) → list_all is_event events ≡ true → above 0 events ≡ events

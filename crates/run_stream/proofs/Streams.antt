@@ -15,9 +15,9 @@ use Rattle.bare_machine.specs.State.{Bare}
 use Rattle.bare_machine.specs.Run.{bare_end}
 use Rattle.rt_core.specs.End.{quiet_end}
 use Rattle.rt_core.specs.Machine.{MachineParts, bare_of}
-use Rattle.rtlinux_top.specs.Last.{HasRunTo}
-use Rattle.rtlinux_top.specs.Lines.{guest_on, guest_lines, shown, ends_shown, shown_at, shown_to, run_shown, bare_at, text_of, tick_text, piece_of, has_breach, shows_breach, is_breach}
-use Rattle.rtlinux_top.proofs.Written.{appended_twice, appended_nothing}
+use Rattle.run_stream.specs.Ran.{HasRunTo}
+use Rattle.run_stream.specs.Lines.{guest_on, guest_lines, shown, ends_shown, shown_at, shown_to, run_shown, bare_at, text_of, tick_text, piece_of, has_breach, shows_breach, is_breach}
+use Rattle.run_stream.proofs.Written.{appended_twice, appended_nothing}
 
 pub text-stamped : (t : ℕ) (lines : List AnyLine) → text_of (stamped t lines) ≡ tick_text t lines
 text-stamped t [] = refl

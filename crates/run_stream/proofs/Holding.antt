@@ -9,7 +9,7 @@ use Rattle.line_kinds.specs.declared.kinds.RLine.TheVariants.{On}
 use Rattle.line_kinds.specs.declared.kinds.Who.{Who}
 use Rattle.line_kinds.specs.declared.kinds.Who.TheVariants.{Guest}
 use Rattle.rt_core.specs.Pick.{guest_picked}
-use Rattle.rtlinux_top.specs.Lines.{guest_on}
+use Rattle.run_stream.specs.Lines.{guest_on}
 
 no_more : (b : Bool) → b ≡ false → (if b then On Guest ∷ [] else []) ≡ []
 no_more true is = cc

@@ -2,7 +2,7 @@
 ghost use Rattle.std.specs.Prelude.{◌≡◌, ◌++◌, map, flat_map, take, if◌then◌else◌};
 ghost use Rattle.outside_io.specs.Sink.{Puts};
 ghost use Rattle.run_output.specs.Merge.{R, G};
-ghost use Rattle.rtlinux_top.specs.Lines.{tick_text, piece_of, shown};
+ghost use Rattle.run_stream.specs.Lines.{tick_text, piece_of, shown};
 
 use line_text::LineText;
 use outside_io::{Sink, SinkFault};

@@ -1,0 +1,4 @@
+pub mod Written
+pub mod Holding
+pub mod Ran
+pub mod Streams

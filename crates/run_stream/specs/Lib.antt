@@ -1,0 +1,4 @@
+pub mod Start
+pub mod Lines
+pub mod Ran
+pub mod Writes

@@ -1,0 +1,7 @@
+//! A run whose lines are written as they come: each tick of the machine, and then its lines.
+#![tactic(auto)]
+
+mod stream;
+mod write;
+
+pub use stream::{Finished, RunFault, run_streaming};
