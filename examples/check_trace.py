@@ -34,6 +34,9 @@ class Trace:
     def entries(self):
         return [(tick, int(words[0])) for tick, words in self.of("G", "enter")]
 
+    def traps(self):
+        return [(tick, int(words[0])) for tick, words in self.of("G", "int")]
+
     def halts(self):
         return [tick for tick, _ in self.of("G", "halt")]
 
@@ -72,6 +75,20 @@ def real_time_side(trace):
 
 def steps_of(start, count, step=BYTE):
     return [start + step * i for i in range(count)]
+
+
+DIVIDE_ERROR, SYSTEM_CALL = 0, 0x80
+
+
+def interrupts(trace):
+    equal("there are no R lines", [line for line in trace.lines if line[0] != "G"], [])
+    trace.only("G", ["int", "end"])
+    # 24 instructions and gates stand before the first call. A round of the loop is the call, the addition, the gate of iret, a
+    # store, an increment, a comparison, a jump and a load. The division stands ten ticks behind the last call.
+    calls = steps_of(25, 4, 8)
+    equal("the entries", trace.traps(), [(tick, SYSTEM_CALL) for tick in calls] + [(calls[-1] + 10, DIVIDE_ERROR)])
+    # The sum of 1 to 4, 100 by 7 and one divide error. EFLAGS is that of the comparison that ended the loop: ZF and PF.
+    equal("the end", trace.registers(), ("runs", [0x16, 0x46, 1 + 2 + 3 + 4, 100 // 7, 1, 0, SIDE, 0, 0, 0]))
 
 
 def first_steps(trace):
@@ -166,7 +183,7 @@ def transmit(trace):
 
 
 if __name__ == "__main__":
-    checks = {check.__name__: check for check in (first_steps, shadow_and_halt, serial_echo, transmit)}
+    checks = {check.__name__: check for check in (interrupts, first_steps, shadow_and_halt, serial_echo, transmit)}
     if len(sys.argv) != 2 or sys.argv[1] not in checks:
         sys.exit(f"usage: check_trace.py {'|'.join(checks)} < TRACE")
     checks[sys.argv[1]](Trace(sys.stdin.read()))
