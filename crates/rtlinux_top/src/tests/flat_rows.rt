@@ -1,4 +1,4 @@
-// Flat images. By tests/make_rows.py from the project's worked rows, computed independently of the program.
+// Flat images. Their outputs were worked out from the definitions of the machine and the Intel 80386 manual, apart from this program.
 
 use crate::Status;
 

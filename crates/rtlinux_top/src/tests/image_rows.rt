@@ -1,4 +1,4 @@
-// Images of a system. By tests/make_rows.py from the project's worked rows, computed independently of the program.
+// Images of a system. Their answers were worked out from the ELF specification and the rules of the image, apart from this program.
 
 /// A system without a script.
 pub static SYSTEM: &[u8] =

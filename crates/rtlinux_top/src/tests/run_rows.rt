@@ -1,4 +1,4 @@
-// Two systems with a script. By tests/make_rows.py from the project's worked rows, computed independently of the program.
+// Two systems with a script. Their outputs were worked out from the definitions of the machine, apart from this program.
 
 /// The system file of both.
 pub static SYSTEM: &[u8] =

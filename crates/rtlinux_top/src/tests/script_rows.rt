@@ -1,4 +1,4 @@
-// Scripts. By tests/make_rows.py from the project's worked rows, computed independently of the program.
+// Scripts. Their answers were worked out from the grammar of the script, apart from this program.
 
 /// Scripts under which the small image only jumps for 5 ticks.
 pub static RAN: [(&str, &[u8]); 6] = [

@@ -1,4 +1,4 @@
-// System files. By tests/make_rows.py from the project's worked rows, computed independently of the program.
+// System files. Their answers were worked out from TOML 1.1 and the table of fields, apart from this program.
 
 /// Systems of which the small image only jumps for 5 ticks.
 pub static RAN: [(&str, &[u8]); 1] = [(

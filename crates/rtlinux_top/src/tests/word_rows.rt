@@ -1,4 +1,4 @@
-// The words. By tests/make_rows.py from the project's worked rows, computed independently of the program.
+// The words. Their answers were worked out from the rules of the commands, apart from this program.
 
 /// Words that are no command.
 pub static USAGE: [&[&str]; 40] = [
