@@ -4,9 +4,12 @@
 # assembler are installed. All ratios are of one run of this script. It builds nothing of the product.
 # usage: bench/run.sh [PROGRAM]
 set -euo pipefail
+[ $# -le 1 ] || { echo "usage: bench/run.sh [PROGRAM]" >&2; exit 2; }
+program=${1:+$(realpath -m "$1")}
 cd "$(dirname "$0")/.."
-program=$(realpath "${1:-crates/rtlinux_cli/out/rtlinux_cli}")
-[ -x "$program" ] || { echo "bench: no program at $program: build it first" >&2; exit 1; }
+program=${program:-$PWD/crates/rtlinux_cli/out/rtlinux_cli}
+[ -f "$program" ] && [ -x "$program" ] || { echo "bench: no program at $program: build it first" >&2; exit 1; }
+command -v python3 > /dev/null || { echo "bench: no python3, which measures" >&2; exit 1; }
 work=$(mktemp -d)
 trap 'rm -rf "$work"' EXIT
 
@@ -106,10 +109,14 @@ if command -v as >/dev/null && command -v ld >/dev/null; then
     else
         echo "QEMU: skipped, not installed"
     fi
-    if command -v bochs >/dev/null; then
-        compare "Bochs" bochs -q -n "display_library: nogui" "megs: 32" "floppya: 1_44=DISK, status=inserted" "boot: floppy" \
-            "romimage: file=/usr/share/seabios/bios.bin" "vgaromimage: file=/usr/share/bochs/VGABIOS-lgpl-latest"
-    else
+    if ! command -v bochs >/dev/null; then
         echo "Bochs: skipped, not installed"
+    elif [ ! -f "${BXSHARE:-}/BIOS-bochs-latest" ]; then
+        echo "Bochs: skipped, BXSHARE doesn't name the folder of its BIOS"
+    else
+        compare "Bochs" bochs -q -n "display_library: nogui" "megs: 32" "floppya: 1_44=DISK, status=inserted" "boot: floppy" \
+            "romimage: file=$BXSHARE/BIOS-bochs-latest" "vgaromimage: file=$BXSHARE/VGABIOS-lgpl-latest"
     fi
+else
+    echo "QEMU and Bochs: skipped, no assembler or linker for their disk"
 fi
