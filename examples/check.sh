@@ -76,6 +76,21 @@ trace() {
     fi
 }
 
+# Each line of a trace that a page shows is one of the output that is kept.
+shown() {
+    local lines other
+    lines=$(sed -nE 's/^    ([RGH] [0-9]+ )/\1/p' "$1")
+    [ -n "$lines" ] || fail "$1 shows no line of a trace"
+    other=$(grep -vxFf "examples/$2/expected" <<< "$lines") || true
+    [ -z "$other" ] || fail "$1 shows a line that isn't in examples/$2/expected: $other"
+    pass "the lines that $1 shows are as kept"
+}
+
+shown README.md first_steps
+for page in examples/*/README.md; do
+    shown "$page" "$(basename "$(dirname "$page")")"
+done
+
 trace interrupts flat examples/interrupts/interrupts.bin 200
 trace first_steps run examples/first_steps/system.toml --ticks 1000
 trace shadow_and_halt run examples/shadow_and_halt/system.toml --ticks 2000
