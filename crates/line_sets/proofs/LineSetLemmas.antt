@@ -54,9 +54,6 @@ pub has-without_other : (a n k : ℕ) → k ≢ n → has (without_line a n) k �
 unfolding without_line
 has-without_other a n k ne = grind (arith, nat_tests, bit_at_xor a (bit_and a (2 ^ n)) k, bit_at_and a (2 ^ n) k, bit_at-pow_other n k ne, bit_at-lt a k)
 
-pub has-without : (a n k : ℕ) → has (without_line a n) k ≡ (not (k == n) && has a k)
-has-without a n k = grind (arith, nat_tests, has-without_same a n, has-without_other a n k)
-
 -- a line that isn't in the set isn't in it either when another was taken out
 pub has-without_kept : (a n k : ℕ) → has a k ≡ false → has (without_line a n) k ≡ false
 has-without_kept a n k h = grind (arith, nat_tests, has-without_same a n, has-without_other a n k)
@@ -173,13 +170,6 @@ run_first (suc k) n lines m h = first_in-cons n lines (range_with_len (n + 1) k)
 pub first_in-zero : (order : List ℕ) → first_in order 0 ≡ None
 first_in-zero [] = first_in-nil 0
 first_in-zero (n ∷ order) = first_in-cons n 0 order ∙ (rw (has-zero n) (first_in-zero order))
-
--- a set of k lines whose lowest is none is empty
-pub none_is_empty : (k lines : ℕ) → lines < 2 ^ k → lowest_of k lines ≡ None → lines ≡ 0
-none_is_empty k lines small e = same_lines lines 0 (λ j. ⊎_elim
-    (λ (h : (leb k j ≡ true) × (k ≤ j)). has_above lines k j small h.1 ∙ sym (has-zero j))
-    (λ (h : (leb k j ≡ false) × (j < k)). none_of_run k 0 lines e j (omega arith) (omega arith) ∙ sym (has-zero j))
-    (leb_tells k j))
 
 -- `trailing_zeros`
 pub lowest_of-code : (w : Width) → (lines : ℕ) → 0 < lines → lines < 2 ^ bits w → lowest_of (bits w) lines ≡ Some (trailing_zeros w lines)

@@ -1,14 +1,6 @@
 // Sets of eight lines.
 ghost use Rattle.std.specs.Prelude.{◌≡◌, ◌<◌, IfSome};
-ghost use Rattle.line_sets.specs.LineSet.{has, minus, with_line, without_line, lowest_of};
-
-/// Whether the line is in the set of eight lines.
-pub fn has_line8(lines: u8, line: u8) -> bool
-    requires { line < 8 }
-    ensures { result ≡ has lines line }
-{
-    (lines >> line) & 1 == 1
-}
+ghost use Rattle.line_sets.specs.LineSet.{minus, with_line, without_line, lowest_of};
 
 /// The set of eight lines with the line in it.
 pub fn with_line8(lines: u8, line: u8) -> u8

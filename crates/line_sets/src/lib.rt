@@ -8,6 +8,6 @@ mod eight;
 mod sixteen;
 mod thirty_two;
 
-pub use eight::{has_line8, lowest8, minus8, with_line8, without_line8};
+pub use eight::{lowest8, minus8, with_line8, without_line8};
 pub use sixteen::{has_line16, lowest16, minus16, with_line16, without_line16};
 pub use thirty_two::{has_line32, lowest32, minus32, with_line32, without_line32};

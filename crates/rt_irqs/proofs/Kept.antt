@@ -1,5 +1,5 @@
 -- What is true of the lines stays true of them.
-use Rattle.std.proofs.Common.{◌≡◌, ℕ, ◌<◌, ◌≤◌, ◌≢◌, true, false, eqb, sym, ap, ◌∙◌, subst, arith, ⊎_elim, Option, Some, None, is_some, length, get_or-set_same, get_or-set_other, slice_set}
+use Rattle.std.proofs.Common.{◌≡◌, ℕ, ◌<◌, ◌≤◌, ◌≢◌, true, false, eqb, sym, ap, ◌∙◌, subst, arith, ⊎_elim, Option, None, is_some, length, get_or-set_same, get_or-set_other, slice_set}
 use Rattle.std.proofs.lemmas.List.{length-set}
 use Rattle.std.proofs.lemmas.Bool.Decides.{nat_tests, eqb_tells}
 use Rattle.line_sets.specs.LineSet.{has, with_line, without_line}
@@ -53,24 +53,6 @@ soft_freed_kept l n ok = record {
 
 held_other : (l : Lines) (n k : ℕ) (x : Option ℕ) → k ≢ n → is_held (record l { entries = slice_set l.entries n x }) k ≡ is_held l k
 held_other l n k x ne = ap is_some (get_or-set_other l.entries n k x None ne)
-
-held_same : (l : Lines) (n entry : ℕ) → n < length l.entries → is_held (record l { entries = slice_set l.entries n (Some entry) }) n ≡ true
-held_same l n entry within = ap is_some (get_or-set_same l.entries n (Some entry) None within)
-
-pub requested_kept : (l : Lines) (n entry : ℕ) → IsLines l → is_holdable n ≡ true → n < 16 → IsLines (record l { entries = slice_set l.entries n (Some entry) })
-requested_kept l n entry ok may within = record {
-  hard = length-set l.entries n (Some entry) ∙ ok.hard;
-  holdable = λ k h. ⊎_elim
-      (λ (e : (eqb k n ≡ true) × (k ≡ n)). subst (λ x. is_holdable x ≡ true) (sym e.1) may)
-      (λ (e : (eqb k n ≡ false) × (k ≢ n)). ok.holdable k (sym (held_other l n k (Some entry) e.1) ∙ h))
-      (eqb_tells k n);
-  marks_held = λ k h. ⊎_elim
-      (λ (e : (eqb k n ≡ true) × (k ≡ n)). rw e.1 (held_same l n entry (omega (arith, ok.hard))))
-      (λ (e : (eqb k n ≡ false) × (k ≢ n)). held_other l n k (Some entry) e.1 ∙ ok.marks_held k h)
-      (eqb_tells k n);
-  soft_from = ok.soft_from;
-  soft_fits = ok.soft_fits;
-}
 
 free_at : (l : Lines) (n : ℕ) → n < length l.entries → is_held (record l { entries = slice_set l.entries n None }) n ≡ false
 free_at l n within = ap is_some (get_or-set_same l.entries n None None within)

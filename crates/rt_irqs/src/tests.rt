@@ -1,3 +1,7 @@
+// The values are worked out by hand from these rules. A module may hold the lines 1, 3 and 5 to 15: 0 is the timer's, 2 the
+// cascade's and 4 the guest's serial port's. Handlers start in the order in which a pair of 8259As acknowledges (8259A data sheet,
+// "Fully Nested Mode" and "Cascade Mode"). A refusal is the negative of Linux's EBUSY, 16, where a line is held or none is free, and
+// of its EINVAL, 22, where the line can't be held, isn't held or isn't taken. Soft lines are 16 to 31, the lowest free one first.
 use crate::Irqs;
 
 #[test]
