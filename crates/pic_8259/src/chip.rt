@@ -16,13 +16,17 @@ const ICW1_IC4: u8 = 0x01;
 /// T7 to T3: the upper five bits of the chip's vectors.
 const ICW2_VECTORS: u8 = 0xF8;
 
+// Operation Command Word 1, at the odd port where no initialisation word is awaited: the mask.
+/// No line is masked.
+pub const OCW1_NO_MASK: u8 = 0x00;
+
 // Operation Command Word 2, at the even port (8259A data sheet, "Operation Control Words").
 /// R, SL and EOI.
 const OCW2_COMMAND: u8 = 0xE0;
 /// The non-specific end of interrupt.
 const OCW2_NONSPECIFIC_EOI: u8 = 0x20;
 /// The specific end of interrupt, of the line in L2 to L0.
-const OCW2_SPECIFIC_EOI: u8 = 0x60;
+pub const OCW2_SPECIFIC_EOI: u8 = 0x60;
 /// L2 to L0.
 const OCW2_LEVEL: u8 = 0x07;
 
@@ -36,18 +40,18 @@ const OCW3_READ_IRR: u8 = 0x02;
 /// The next reads give ISR.
 const OCW3_READ_ISR: u8 = 0x03;
 
-/// The line of the master at which the slave stands.
-pub(crate) const CASCADE: u8 = 2;
+/// The line of the master at which the slave stands; it is never latched.
+pub const CASCADE: u8 = 2;
 
 /// What the odd port awaits (8259A data sheet, "Initialization Sequence").
 #[derive(Clone, Copy, Debug, PartialEq, Eq)]
 pub enum Step {
     /// No initialisation word: a write is OCW1, the mask.
     Ready,
-    /// ICW2; then ICW3 where the first is true, and then ICW4 where the second is.
-    AwaitsIcw2(bool, bool),
-    /// ICW3; then ICW4 where this is true.
-    AwaitsIcw3(bool),
+    /// ICW2; then ICW3 and ICW4 where they were asked for.
+    AwaitsIcw2 { icw3: bool, icw4: bool },
+    /// ICW3; then ICW4 where it was asked for.
+    AwaitsIcw3 { icw4: bool },
     /// ICW4.
     AwaitsIcw4,
 }
@@ -86,7 +90,7 @@ fn after_icw2(icw3: bool, icw4: bool) -> Step
     ensures { result ≡ after_icw2 icw3 icw4 }
 {
     if icw3 {
-        Step::AwaitsIcw3(icw4)
+        Step::AwaitsIcw3 { icw4 }
     } else if icw4 {
         Step::AwaitsIcw4
     } else {
@@ -151,7 +155,10 @@ impl Chip {
         self.isr = 0;
         self.imr = 0;
         self.read_choice = ReadChoice::Irr;
-        self.step = Step::AwaitsIcw2(!is_set(word, ICW1_SNGL), is_set(word, ICW1_IC4));
+        self.step = Step::AwaitsIcw2 {
+            icw3: !is_set(word, ICW1_SNGL),
+            icw4: is_set(word, ICW1_IC4),
+        };
     }
 
     // OCW3.
@@ -199,11 +206,11 @@ impl Chip {
     {
         match self.step {
             Step::Ready => self.imr = word,
-            Step::AwaitsIcw2(icw3, icw4) => {
+            Step::AwaitsIcw2 { icw3, icw4 } => {
                 self.base = word & ICW2_VECTORS;
                 self.step = after_icw2(icw3, icw4);
             }
-            Step::AwaitsIcw3(icw4) => self.step = after_icw2(false, icw4),
+            Step::AwaitsIcw3 { icw4 } => self.step = after_icw2(false, icw4),
             Step::AwaitsIcw4 => self.step = Step::Ready,
         }
     }

@@ -8,9 +8,11 @@ mod chip;
 mod laws;
 mod pair;
 
-pub use chip::{Chip, ReadChoice, Step};
+pub use chip::{CASCADE, Chip, OCW1_NO_MASK, OCW2_SPECIFIC_EOI, ReadChoice, Step};
 pub use laws::{keeps_latches, latches_rises, requests_in_order};
-pub use pair::{MASTER_COMMAND, MASTER_DATA, Pair, SLAVE_COMMAND, SLAVE_DATA};
+pub use pair::{
+    CHIP_LINES, FIRST_VECTOR, MASTER_COMMAND, MASTER_DATA, Pair, SLAVE_COMMAND, SLAVE_DATA,
+};
 
 #[cfg(test)]
 mod tests;

@@ -3,7 +3,7 @@ ghost use Rattle.std.specs.Prelude.{◌≡◌, ◌<◌, IfSome, IsTrue, option_m
 ghost use Rattle.pic_8259.specs.Controllers.{latch_of, latch_with, request_of, after_acknowledge, vector_of, risen, written, read_of, new_pair, is_port, IsPair};
 ghost use Rattle.pic_8259.specs.Boot.{IsBooted, booted, boot_written};
 
-use crate::chip::{CASCADE, Chip};
+use crate::chip::{CASCADE, Chip, OCW1_NO_MASK};
 use line_sets::with_line8;
 use std::marker::Model;
 
@@ -17,7 +17,21 @@ pub const SLAVE_COMMAND: u16 = 0xA0;
 pub const SLAVE_DATA: u16 = 0xA1;
 
 /// How many lines a chip has: from this line on they are the slave's.
-const LINES: u8 = 8;
+pub const CHIP_LINES: u8 = 8;
+
+// The initialisation words of the boot (8259A data sheet, "Initialization Command Words").
+/// ICW1: in cascade mode, so ICW3 follows, and with ICW4.
+const ICW1_CASCADE_WITH_ICW4: u8 = 0x11;
+/// ICW2 of the master: the vector of line 0.
+pub const FIRST_VECTOR: u8 = 0x20;
+/// ICW2 of the slave: the vector of line 8.
+const SLAVE_FIRST_VECTOR: u8 = 0x28;
+/// ICW3 of the master: a slave stands at its line 2.
+const ICW3_SLAVE_AT_CASCADE: u8 = 1 << CASCADE;
+/// ICW3 of the slave: its number is that of the master's line.
+const ICW3_SLAVE_NUMBER: u8 = CASCADE;
+/// ICW4: 8086 mode, with ends of interrupt by OCW2.
+const ICW4_8086: u8 = 0x01;
 
 /// The master and the slave. Contracts see both chips' registers, of which `IsPair` holds at all times.
 #[derive(Clone, Copy, Debug)]
@@ -59,7 +73,7 @@ impl Pair {
         let of_slave = self.slave.request(false);
         match self.master.request(of_slave.is_some()) {
             Some(CASCADE) => match of_slave {
-                Some(line) => Some(line + LINES),
+                Some(line) => Some(line + CHIP_LINES),
                 None => None,
             },
             line => line,
@@ -76,13 +90,13 @@ impl Pair {
         ensures kept { IsPair self.new }
     {
         let line = self.request()?;
-        if line < LINES {
+        if line < CHIP_LINES {
             self.master.acknowledge(line);
             Some(self.master.base + line)
         } else {
-            self.slave.acknowledge(line - LINES);
+            self.slave.acknowledge(line - CHIP_LINES);
             self.master.isr = with_line8(self.master.isr, CASCADE);
-            Some(self.slave.base + (line - LINES))
+            Some(self.slave.base + (line - CHIP_LINES))
         }
     }
 
@@ -94,11 +108,11 @@ impl Pair {
         ensures kept { IsPair self.new }
     {
         if line == CASCADE {
-            let _mask = self.master.imr;
-        } else if line < LINES {
+            // The cascade's line latches nothing.
+        } else if line < CHIP_LINES {
             self.master.irr = with_line8(self.master.irr, line);
         } else {
-            self.slave.irr = with_line8(self.slave.irr, line - LINES);
+            self.slave.irr = with_line8(self.slave.irr, line - CHIP_LINES);
         }
     }
 
@@ -150,15 +164,15 @@ impl Pair {
         ensures booted { self.new ≡ booted 0 0 }
         ensures kept { IsPair self.new }
     {
-        self.write(MASTER_COMMAND, 0x11);
-        self.write(MASTER_DATA, 0x20);
-        self.write(MASTER_DATA, 0x04);
-        self.write(MASTER_DATA, 0x01);
-        self.write(MASTER_DATA, 0x00);
-        self.write(SLAVE_COMMAND, 0x11);
-        self.write(SLAVE_DATA, 0x28);
-        self.write(SLAVE_DATA, 0x02);
-        self.write(SLAVE_DATA, 0x01);
-        self.write(SLAVE_DATA, 0x00);
+        self.write(MASTER_COMMAND, ICW1_CASCADE_WITH_ICW4);
+        self.write(MASTER_DATA, FIRST_VECTOR);
+        self.write(MASTER_DATA, ICW3_SLAVE_AT_CASCADE);
+        self.write(MASTER_DATA, ICW4_8086);
+        self.write(MASTER_DATA, OCW1_NO_MASK);
+        self.write(SLAVE_COMMAND, ICW1_CASCADE_WITH_ICW4);
+        self.write(SLAVE_DATA, SLAVE_FIRST_VECTOR);
+        self.write(SLAVE_DATA, ICW3_SLAVE_NUMBER);
+        self.write(SLAVE_DATA, ICW4_8086);
+        self.write(SLAVE_DATA, OCW1_NO_MASK);
     }
 }
