@@ -90,9 +90,6 @@ none_map f (Some n) e = absurd cc
 pub first_none : (p : Controllers) → IsBooted p → IsPair p → None ≡ option_map (vector_of p) (request_of p) → first_in acknowledge_order (latch_of p) ≡ None
 first_none p b ok e = sym (in_order p ok b) ∙ none_map (vector_of p) (request_of p) e
 
-pub none_request : (p q : Controllers) → None ≡ option_map (vector_of p) (request_of p) → q ≡ after_acknowledge (request_of p) p → q ≡ p
-none_request p q e after = after ∙ ap (λ x. after_acknowledge x p) (none_map (vector_of p) (request_of p) e)
-
 -- where no line of the order stands, and the cascade's doesn't, the latch is empty
 neither : (a b : Option ℕ) → option_or a b ≡ None → (a ≡ None) × (b ≡ None)
 neither None b e = (refl, e)

@@ -63,6 +63,7 @@ pub fn drain(pair: &mut Pair, irqs: &mut Irqs) -> Drained
     ensures kept { IsPair pair.new }
     ensures lines { IsLines irqs.new }
 {
+    // Looked at so that the proof knows what is true of each pair and of the lines before the first turn.
     let _line = pair.request();
     let _line = irqs.next();
     let mut acknowledged = 0;

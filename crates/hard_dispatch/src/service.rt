@@ -5,18 +5,10 @@ ghost use Rattle.pic_8259.specs.Controllers.{IsPair, latch_of, acknowledged};
 ghost use Rattle.pic_8259.specs.Boot.{IsBooted, acknowledge_order};
 ghost use Rattle.hard_dispatch.specs.Service.{finished, lowered, lowered_where, masked};
 
-use pic_8259::{MASTER_COMMAND, MASTER_DATA, Pair, SLAVE_COMMAND, SLAVE_DATA};
-
-/// The vector of line 0.
-const FIRST_VECTOR: u8 = 0x20;
-/// How many lines a chip has: from this line on they are the slave's.
-const CHIP_LINES: u8 = 8;
-/// The line of the master at which the slave stands; it is never latched.
-const CASCADE: u8 = 2;
-/// OCW2: the specific end of interrupt of the line in the lowest three bits.
-const SPECIFIC_EOI: u8 = 0x60;
-/// OCW1: no line is masked.
-const NO_MASK: u8 = 0x00;
+use pic_8259::{
+    CASCADE, CHIP_LINES, FIRST_VECTOR, MASTER_COMMAND, MASTER_DATA, OCW1_NO_MASK,
+    OCW2_SPECIFIC_EOI, Pair, SLAVE_COMMAND, SLAVE_DATA,
+};
 
 // The specific ends of interrupt of a line that was acknowledged.
 fn finish(pair: &mut Pair, line: u8)
@@ -25,10 +17,10 @@ fn finish(pair: &mut Pair, line: u8)
     ensures kept { IsPair pair.new }
 {
     if line < CHIP_LINES {
-        pair.write(MASTER_COMMAND, SPECIFIC_EOI + line);
+        pair.write(MASTER_COMMAND, OCW2_SPECIFIC_EOI + line);
     } else {
-        pair.write(SLAVE_COMMAND, SPECIFIC_EOI + (line - CHIP_LINES));
-        pair.write(MASTER_COMMAND, SPECIFIC_EOI + CASCADE);
+        pair.write(SLAVE_COMMAND, OCW2_SPECIFIC_EOI + (line - CHIP_LINES));
+        pair.write(MASTER_COMMAND, OCW2_SPECIFIC_EOI + CASCADE);
     }
 }
 
@@ -61,6 +53,7 @@ fn mask_all_but(pair: &mut Pair, line: u8)
     requires booted { IsBooted pair.old }
     requires within { line < 16 }
     ensures masked { pair.new ≡ masked line pair.old.master.irr pair.old.slave.irr }
+    ensures before { IsPair pair.old }
 {
     if line < CHIP_LINES {
         pair.write(MASTER_DATA, !(1 << line));
@@ -89,12 +82,11 @@ fn take_alone(pair: &mut Pair, line: u8) -> bool
     ensures before { IsPair pair.old }
     ensures kept { IsPair pair.new }
 {
-    let _line = pair.request();
     mask_all_but(pair, line);
     let stood = pair.acknowledge().is_some();
     finish_where(pair, line, stood);
-    pair.write(MASTER_DATA, NO_MASK);
-    pair.write(SLAVE_DATA, NO_MASK);
+    pair.write(MASTER_DATA, OCW1_NO_MASK);
+    pair.write(SLAVE_DATA, OCW1_NO_MASK);
     stood
 }
 
@@ -108,6 +100,7 @@ pub fn take_line(pair: &mut Pair, line: u8) -> bool
     ensures booted { IsBooted pair.new }
     ensures kept { IsPair pair.new }
 {
+    // Looked at so that the proof knows what is true of each pair: line 2 is never latched.
     let _line = pair.request();
     if line == CASCADE {
         return false;

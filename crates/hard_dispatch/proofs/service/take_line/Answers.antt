@@ -6,7 +6,7 @@ use Rattle.hard_dispatch.proofs.Requests.{no_cascade, without_line-absent, latch
 use Rattle.hard_dispatch.proofs.service.take_line.Goals as goal
 
 pub returns-clause-latches : goal.returns-clause-latches
-returns-clause-latches c = ap latch_of c.take_alone.ensures.pair ∙ latch-lowered_where c.args.pair.now c.args.line (has (latch_of c.args.pair.now) c.args.line) c.request-line.ensures.pair refl
+returns-clause-latches c = ap latch_of c.take_alone.ensures.pair ∙ latch-lowered_where c.args.pair.now c.args.line (has (latch_of c.args.pair.now) c.args.line) c.take_alone.ensures.before refl
 
 pub returns-clause-booted : goal.returns-clause-booted
 returns-clause-booted c = subst IsBooted (sym c.take_alone.ensures.pair) (booted-lowered_where c.args.pair.now c.args.line (has (latch_of c.args.pair.now) c.args.line) c.requires.booted)
