@@ -1,7 +1,7 @@
 // One counter of the 8254.
 
-ghost use Rattle.std.specs.Prelude.{◌≡◌, ◌≤◌, ◌<◌, ◌/◌};
-ghost use Rattle.pit_8254.specs.Counter.{full_count, out_at, out_of, held_at, held_of, cycle_begun, pulsed, completed, half_written_by, byte_written, mode_of, access_of, latched, controlled, shown, byte_of, byte_read, after_read, new_counter};
+ghost use Rattle.std.specs.Prelude.{◌≡◌, ◌≤◌, ◌<◌, ◌-◌, ◌%◌, ◌/◌};
+ghost use Rattle.pit_8254.specs.Counter.{full_count, out_at, out_of, held_at, held_of, cycle_begun, pulsed, completed, half_written_by, byte_written, mode_of, controlled, shown, byte_read, after_read, new_counter};
 
 // The control word (8254 data sheet, "Control Word Format").
 /// RW1 and RW0 in bits 5 and 4: which bytes of a count are read and written.
@@ -86,6 +86,20 @@ fn full(mode: Mode, count: u16) -> u32
     }
 }
 
+// The place in its cycle of so many pulses. What a counter keeps stays within the first cycle, so that nothing is divided there.
+fn place(pulses: u32, count: u32) -> u32
+    requires begun { 1 ≤ pulses }
+    requires some { 1 ≤ count }
+    ensures { result ≡ (pulses - 1) % count }
+{
+    let after_first = pulses - 1;
+    if after_first < count {
+        after_first
+    } else {
+        after_first % count
+    }
+}
+
 // OUT after so many pulses.
 fn out_after(mode: Mode, count: u32, pulses: u32) -> bool
     requires some { 1 ≤ count }
@@ -95,8 +109,8 @@ fn out_after(mode: Mode, count: u32, pulses: u32) -> bool
     match mode {
         Mode::Unset => false,
         Mode::TerminalCount => pulses >= count + 1,
-        Mode::RateGenerator => pulses == 0 || (pulses - 1) % count != count - 1,
-        Mode::SquareWave => pulses == 0 || 2 * ((pulses - 1) % count) < count,
+        Mode::RateGenerator => pulses == 0 || place(pulses, count) != count - 1,
+        Mode::SquareWave => pulses == 0 || 2 * place(pulses, count) < count,
     }
 }
 
@@ -111,7 +125,7 @@ fn held_after(mode: Mode, count: u32, pulses: u32) -> u16
     }
     match mode {
         Mode::TerminalCount => ((count + TURN - (pulses - 1) % TURN) % TURN) as u16,
-        Mode::RateGenerator => ((count - (pulses - 1) % count) % TURN) as u16,
+        Mode::RateGenerator => ((count - place(pulses, count)) % TURN) as u16,
         Mode::Unset | Mode::SquareWave => 0,
     }
 }

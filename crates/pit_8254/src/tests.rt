@@ -63,7 +63,8 @@ fn follows(script: &str, counter: u8) -> bool
     true
 }
 
-// The values are worked out by hand from the rules, of which each row names the one that it shows.
+// The values are worked out by hand from the rules of the 8254's data sheet ("Programming the 8254", "Read Operations" and "Mode
+// Definitions") and of specs/Counter.antt where that leaves something open; each row names the rule that it shows.
 #[test]
 fn counters_follow_the_rules(rt: HostRuntime) {
     for (counter, script, rule) in [
@@ -257,6 +258,7 @@ fn counters_follow_the_rules(rt: HostRuntime) {
             "a control word is for its counter alone",
         ),
     ] {
+        // Each row meets the condition of `follows`, which the proof knows from this.
         assert!(rt; counter < 3);
         assert!(rt; follows(script, counter), "{rule}: {script}");
     }
