@@ -1,4 +1,5 @@
--- The 16550 serial port: its registers, the two lists of bytes that wait in its buffers, the shift register, and the timer of the receive timeout (PC16550D data sheet, section 8).
+-- The 16550 serial port: its registers, the two lists of bytes that wait in its buffers, the shift register, and the timer of
+-- the receive timeout (PC16550D data sheet, section 8).
 use Rattle.std.specs.Prelude.{ℕ, ◌+◌, ◌-◌, ◌/◌, ◌%◌, Bool, true, false, not, ◌&&◌, ◌||◌, ◌==◌, nat_lt, nat_le, if◌then◌else◌, Option, Some, None, is_none, List, [], ◌∷◌, ◌++◌, length, drop, slice_index}
 use Rattle.std.specs.Int.{bit_at}
 

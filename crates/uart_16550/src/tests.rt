@@ -1,4 +1,4 @@
-// Lists of calls, with what each has to give.
+// Lists of calls, each named by the rule that it shows, with what each call has to give.
 
 mod fifos_off;
 mod fifos_on;

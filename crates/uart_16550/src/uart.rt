@@ -1,6 +1,6 @@
 // A 16550 with its two buffers.
 
-ghost use Rattle.std.specs.Prelude.{◌≡◌, ◌<◌, ◌%◌};
+ghost use Rattle.std.specs.Prelude.{◌≡◌, ◌<◌};
 ghost use Rattle.uart_16550.specs.SerialPort.{SerialPort, bit, divisor_latch, receiver_asks, cause_of, line_of, line_status, register_read, register_after_read, data_taken, sent, enabled, fifo_controlled, receiver_emptied, transmitter_emptied, first_cause, trigger_of, register_written, byte_received, leaves, shifted, loaded, timed, ticked, fresh_port};
 
 use arrayvec::ArrayVec;
