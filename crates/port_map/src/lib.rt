@@ -8,5 +8,5 @@ mod serial;
 #[cfg(test)]
 mod tests;
 
-pub use owner::Owner;
+pub use owner::{COM1_LINE, COM2_LINE, Owner};
 pub use serial::{read_serial, write_serial};

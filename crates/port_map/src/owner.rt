@@ -25,10 +25,10 @@ const COM1_BASE: u16 = 0x3F8;
 const COM2_BASE: u16 = 0x2F8;
 /// How many ports a serial port has.
 const SERIAL_PORTS: u16 = 8;
-/// COM1's interrupt line.
-const COM1_LINE: u8 = 4;
-/// COM2's interrupt line.
-const COM2_LINE: u8 = 3;
+/// COM1's interrupt line (IBM PC/AT Technical Reference, "System Interrupts").
+pub const COM1_LINE: u8 = 4;
+/// COM2's interrupt line (IBM PC/AT Technical Reference, "System Interrupts").
+pub const COM2_LINE: u8 = 3;
 
 impl Owner {
     /// The first port of the owner's serial port.

@@ -1,4 +1,6 @@
-// Which accesses each owner may make.
+// Which accesses each owner may make. The ports are those of the IBM PC/AT's I/O address map: 20h, 21h, A0h and A1h are the
+// interrupt controllers', 40h to 43h the timer's, 2F8h to 2FFh COM2's and 3F8h to 3FFh COM1's. An access is an owner's where each
+// port that it touches, rising modulo 65,536, is of the owner's serial port or of nobody.
 
 use crate::Owner::{Guest, RealTime};
 use crate::{Owner, read_serial, write_serial};
@@ -7,7 +9,7 @@ use cpu_state::Width::{W8, W16, W32};
 use uart_16550::Uart;
 
 #[test]
-fn the_port_table(rt: HostRuntime) {
+fn an_owner_may_access_its_serial_port_and_the_ports_of_nobody(rt: HostRuntime) {
     let cases: [(u16, Width, bool, bool); 24] = [
         (0x1F, W8, true, true),
         (0x1F, W16, false, false),
@@ -44,7 +46,8 @@ fn the_port_table(rt: HostRuntime) {
     }
 }
 
-// The scratch register is the last port of a serial port, the line control register the fourth.
+// The scratch register is the last port of a serial port and keeps what is written; from the fourth on come LCR, MCR, LSR, in which
+// an idle transmitter is 60h, and MSR (PC16550D data sheet, section 8). Ports of nobody read all ones.
 #[test]
 fn bytes_go_to_rising_ports(rt: HostRuntime) {
     let mut uart = Uart::new();
