@@ -56,10 +56,10 @@ rises_if rose n s = if rose then rises n s else s
 
 -- a sampling of the serial ports' lines
 abbrev pub com1_sampled : Rising → Rising
-com1_sampled s = rises_if (line_of s.board.com1 && not s.board.com1_high) 4 (record s { board = record s.board { com1_high = line_of s.board.com1 } })
+com1_sampled s = rises_if (line_of s.board.com1 && not s.board.com1_high) (line_of_owner Guest) (record s { board = record s.board { com1_high = line_of s.board.com1 } })
 
 abbrev pub com2_sampled : Rising → Rising
-com2_sampled s = rises_if (line_of s.board.com2 && not s.board.com2_high) 3 (record s { board = record s.board { com2_high = line_of s.board.com2 } })
+com2_sampled s = rises_if (line_of s.board.com2 && not s.board.com2_high) (line_of_owner RealTime) (record s { board = record s.board { com2_high = line_of s.board.com2 } })
 
 abbrev pub sampled : Rising → Rising
 sampled s = com2_sampled (com1_sampled s)

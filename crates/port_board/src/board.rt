@@ -6,14 +6,14 @@ ghost use Rattle.cpu_state.specs.Bus.{all_mine};
 ghost use Rattle.port_map.specs.Serial.{sampled_now};
 ghost use Rattle.device_script.specs.Event.{is_device_event};
 ghost use Rattle.port_board.specs.OneShot.{one_shot_set};
-ghost use Rattle.port_board.specs.Board.{Rising, IsSampled, rises_of, rises_taken, serial_of, accessed, rises_if, com1_sampled, com2_sampled, sampled, ports_of, pulsed_once, event_done, events_done, AreEvents, device_step, edges_of, new_board};
+ghost use Rattle.port_board.specs.Board.{IsSampled, rises_of, rises_taken, serial_of, accessed, rises_if, com1_sampled, com2_sampled, sampled, ports_of, pulsed_once, event_done, events_done, AreEvents, device_step, edges_of, new_board};
 
 use cpu_state::Width;
 use device_script::Event;
 use line_sets::with_line16;
 use pic_8259::Pair;
 use pit_8254::{CONTROL_WORD, COUNTER_0, Pit};
-use port_map::{Owner, read_serial, write_serial};
+use port_map::{COM1_LINE, COM2_LINE, Owner, read_serial, write_serial};
 use uart_16550::Uart;
 
 /// An access touches a port that is another owner's.
@@ -28,12 +28,8 @@ pub struct Edges {
     pub com2: Option<u8>,
 }
 
-/// The timer's interrupt line.
+/// The interrupt line of the timer's counter 0 (IBM PC/AT Technical Reference, "System Interrupts").
 const TIMER_LINE: u8 = 0;
-/// COM2's interrupt line.
-const COM2_LINE: u8 = 3;
-/// COM1's interrupt line.
-const COM1_LINE: u8 = 4;
 
 /// The control word of the one-shot: counter 0, both bytes of the count, low byte first, mode 0, binary.
 const ONE_SHOT: u8 = 0x30;

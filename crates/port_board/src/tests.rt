@@ -1,4 +1,8 @@
-// The lines that rise by accesses, in device steps and by the one-shot.
+// The lines that rise by accesses, in device steps and by the one-shot. The values are worked out by hand from these rules. COM1 has
+// line 4, COM2 line 3 and the timer's counter 0 line 0 (IBM PC/AT Technical Reference, "System Interrupts"). A port's line is high
+// where an enabled cause asks and OUT2 is set (PC16550D data sheet, section 8, and the PC/AT's wiring), and rises where it was low
+// before. A byte that is written waits for the next tick and leaves 32 ticks after that. Counter 0 has two pulses a tick, and mode 0
+// rises a pulse after its count (8254 data sheet, "Mode 0"): a one-shot of k ticks has the count 2k-1.
 
 use crate::{Board, NotYours};
 use cpu_state::Width::{W8, W16, W32};
