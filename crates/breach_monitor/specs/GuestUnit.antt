@@ -6,11 +6,18 @@ use Rattle.breach_monitor.specs.declared.guest.Breach.TheVariants.{Privileged, I
 use Rattle.breach_monitor.specs.declared.guest.GuestUnit.{GuestUnit}
 use Rattle.breach_monitor.specs.declared.guest.GuestUnit.TheVariants.{Next, Enter, Gate, Breach}
 
--- vectors F0h to F6h are the soft gates, and those behind them breaches
+-- the first and the last of the vectors that are soft gates
+abbrev pub first_gate : ℕ
+first_gate = 0xF0
+
+abbrev pub last_gate : ℕ
+last_gate = 0xF6
+
+-- vectors before the soft gates are entered, and those behind them are breaches
 abbrev pub interrupted : ℕ → ℕ → GuestUnit
 interrupted vector next =
-    if nat_lt vector 240 then Enter vector next
-    else if nat_le vector 246 then Gate vector next
+    if nat_lt vector first_gate then Enter vector next
+    else if nat_le vector last_gate then Gate vector next
     else Breach (Int vector)
 
 -- a trap pushes the EIP of the instruction, an interrupt that of the next one

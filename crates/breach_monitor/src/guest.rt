@@ -5,7 +5,7 @@ ghost use Rattle.port_map.specs.declared.owner.Owner.TheVariants as owner;
 ghost use Rattle.pic_8259.specs.Controllers.{IsPair};
 ghost use Rattle.port_board.specs.Board.{ports_of, IsSampled};
 ghost use Rattle.breach_monitor.specs.Bus.{bus_state};
-ghost use Rattle.breach_monitor.specs.GuestUnit.{answer_to, interrupted};
+ghost use Rattle.breach_monitor.specs.GuestUnit.{answer_to, interrupted, first_gate, last_gate};
 
 use crate::GuestBus;
 use cpu_state::{Access, Privileged, Registers};
@@ -68,7 +68,7 @@ pub fn guest_unit(regs: &mut Registers, bus: &mut GuestBus<'_>) -> GuestUnit
     ensures size { length bus.new.bytes.now ≡ length bus.old.bytes.now }
     ensures sampled { IsSampled bus.old.board.now → IsSampled bus.new.board.now }
     ensures pair { IsPair bus.old.board.now.pair → IsPair bus.new.board.now.pair }
-    ensures gate { (number next : ℕ) → result ≡ GuestUnit.Gate number next → (240 ≤ number) × (number ≤ 246) }
+    ensures gate { (number next : ℕ) → result ≡ GuestUnit.Gate number next → (first_gate ≤ number) × (number ≤ last_gate) }
 {
     let eip = regs.eip;
     match step(regs, bus) {
@@ -90,7 +90,7 @@ pub fn guest_unit_on(regs: &mut Registers, memory: &mut [u8], board: &mut Board)
     ensures size { length memory.new ≡ length memory.old }
     ensures sampled { IsSampled board.old → IsSampled board.new }
     ensures pair { IsPair board.old.pair → IsPair board.new.pair }
-    ensures gate { (number next : ℕ) → result ≡ GuestUnit.Gate number next → (240 ≤ number) × (number ≤ 246) }
+    ensures gate { (number next : ℕ) → result ≡ GuestUnit.Gate number next → (first_gate ≤ number) × (number ≤ last_gate) }
 {
     let mut bus = GuestBus::new(0, memory, board);
     guest_unit(regs, &mut bus)

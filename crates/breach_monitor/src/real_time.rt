@@ -18,7 +18,7 @@ use port_board::Board;
 pub enum Fault {
     /// the divide error
     Divide,
-    /// no instruction, or one that no activity may use
+    /// bytes that are no instruction
     Opcode,
     /// an interrupt other than F8h and F9h, INT3, or INTO with OF set
     Int,
