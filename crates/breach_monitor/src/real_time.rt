@@ -1,7 +1,6 @@
 // The unit of a real-time activity.
 ghost use Rattle.std.specs.Prelude.{◌≡◌, ◌≢◌, length, true};
 ghost use Rattle.i386_execute.specs.OwnFlag.{is_on_flag};
-ghost use Rattle.i386_execute.specs.Unit.{unit};
 ghost use Rattle.port_map.specs.declared.owner.Owner.TheVariants as owner;
 ghost use Rattle.pic_8259.specs.Controllers.{IsPair};
 ghost use Rattle.port_board.specs.Board.{ports_of, IsSampled};
