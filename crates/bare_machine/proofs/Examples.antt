@@ -1,11 +1,11 @@
 -- What a tick comes to where no instruction is decoded, by computation.
 use Rattle.std.proofs.Common.{◌≡◌, ℕ, true, false, refl, List, [], ◌∷◌, Some, pos, negsuc}
+use Rattle.cpu_state.specs.Registers.{eax}
 use Rattle.line_kinds.specs.declared.kinds.BreachKind.TheVariants.{Load, Store}
 use Rattle.line_kinds.specs.declared.kinds.GLine.TheVariants.{Breach, Shutdown, Halt, Com1}
 use Rattle.line_kinds.specs.declared.kinds.Mode.TheVariants.{Runs, Halted, Stopped}
 use Rattle.line_sets.specs.LineSet.{union, minus, first_in}
 use Rattle.soft_entry.specs.Entry.{entering}
-use Rattle.machine_parts.specs.Processor.{eax}
 use Rattle.machine_parts.specs.Ranges.{first_outside}
 use Rattle.run_lines.specs.Calls.{PutCall, GetCall}
 use Rattle.run_lines.specs.Says.{Answer}

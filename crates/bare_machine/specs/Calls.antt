@@ -1,13 +1,14 @@
 -- The functions of the gate F6h on the timer and on FIFOs: their arguments are in EBX, ECX and EDX, and a result is left in EAX.
 use Rattle.std.specs.Prelude.{ℕ, ◌==◌, nat_lt, Bool, false, ◌&&◌, ◌||◌, [], ◌∷◌, take, if◌then◌else◌, Option, Some, None, ℤ, pos, negsuc}
 use Rattle.std.specs.Int.{cast_unsigned, w32}
+use Rattle.cpu_state.specs.Registers.{ebx, ecx, edx, with_eax}
 use Rattle.memory_model.specs.Side.{bytes_at, stored}
 use Rattle.line_kinds.specs.declared.kinds.BreachKind.{BreachKind}
 use Rattle.line_kinds.specs.declared.kinds.BreachKind.TheVariants.{Load, Store}
 use Rattle.line_kinds.specs.declared.kinds.GLine.{GLine}
 use Rattle.line_kinds.specs.declared.kinds.GLine.TheVariants.{Breach, Put, Get}
 use Rattle.line_kinds.specs.declared.kinds.Mode.TheVariants.{Stopped}
-use Rattle.machine_parts.specs.Processor.{ebx, ecx, edx, with_eax, at_eip}
+use Rattle.machine_parts.specs.Processor.{at_eip}
 use Rattle.machine_parts.specs.Ranges.{first_outside}
 use Rattle.run_lines.specs.Calls.{Call, PutCall, GetCall}
 use Rattle.run_lines.specs.Says.{Answer}

@@ -1,5 +1,6 @@
 -- The guest's unit: an entry of an asked line, or one instruction with its traps, interrupts, gates and breaches.
 use Rattle.std.specs.Prelude.{ℕ, ◌+◌, ◌==◌, ◌&&◌, false, [], ◌∷◌, List, if◌then◌else◌, Option, Some, None}
+use Rattle.cpu_state.specs.Registers.{eax}
 use Rattle.cpu_state.specs.declared.registers.Access.{Access}
 use Rattle.cpu_state.specs.declared.registers.Access.TheVariants.{Load as Loading, Store as Storing, Fetch as Fetching}
 use Rattle.cpu_state.specs.declared.registers.Privileged.{Privileged as PrivilegedUse}
@@ -26,7 +27,7 @@ use Rattle.line_sets.specs.LineSet.{with_line, without_line}
 use Rattle.pending_irqs.specs.Pending.{lowest_enabled}
 use Rattle.port_map.specs.Serial.{Serial, rose}
 use Rattle.port_map.specs.declared.owner.Owner.TheVariants.{Guest}
-use Rattle.machine_parts.specs.Processor.{unit_at, eax}
+use Rattle.machine_parts.specs.Processor.{unit_at}
 use Rattle.run_lines.specs.Says.{Answer}
 use Rattle.bare_machine.specs.State.{Bare, UnitOutcome, Done, Calls, is_stopped, is_halted}
 use Rattle.bare_machine.specs.Calls.{breached, stopped, onward, is_served, served_by, replied, call_line}

@@ -3,6 +3,7 @@
 use Rattle.std.proofs.Common.{◌≡◌, ℕ, ◌+◌, zero, suc, Bool, true, false, refl, ap, sym, subst, List}
 use Rattle.std.specs.Prelude.{◌%◌, ◌==◌, ◌&&◌, Option, Some, None, Result, Ok, Err, length, if◌then◌else◌}
 use Rattle.cpu_state.specs.Bus.{State, Ports, all_mine}
+use Rattle.cpu_state.specs.Registers.{ecx}
 use Rattle.cpu_state.specs.Width.{size}
 use Rattle.cpu_state.specs.declared.registers.Privileged.{Privileged as PrivilegedUse}
 use Rattle.cpu_state.specs.declared.registers.Registers.{Registers}
@@ -17,7 +18,7 @@ use Rattle.i386_effects.specs.Change as of
 use Rattle.i386_effects.specs.Effect.{Effect as FormEffect, Commit, commit_unless, written, changed, after_loads, effect_of}
 use Rattle.i386_effects.specs.declared.lists.Touch.{Touch}
 use Rattle.i386_effects.specs.declared.lists.Write.{Write}
-use Rattle.i386_strings.specs.Iteration.{IterationEffect, iteration, iterated, string_loads, string_writes, repeats, ecx, ended}
+use Rattle.i386_strings.specs.Iteration.{IterationEffect, iteration, iterated, string_loads, string_writes, repeats, ended}
 use Rattle.i386_strings.specs.Iteration as strings
 use Rattle.i386_execute.specs.Changes.{change}
 use Rattle.i386_execute.specs.Loads.{loads}

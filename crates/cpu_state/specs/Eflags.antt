@@ -28,3 +28,7 @@ abbrev pub word_of : Eflags → ℕ
 word_of f =
     2 + weight f.carry (2 ^ 0) + weight f.parity (2 ^ 2) + weight f.adjust (2 ^ 4) + weight f.zero (2 ^ 6) + weight f.sign (2 ^ 7)
     + weight f.interrupt (2 ^ 9) + weight f.direction (2 ^ 10) + weight f.overflow (2 ^ 11)
+
+-- the flags with another interrupt flag
+abbrev pub with_interrupt : Bool → Eflags → Eflags
+with_interrupt flag f = record f { interrupt = flag }

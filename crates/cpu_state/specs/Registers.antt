@@ -1,7 +1,39 @@
--- The registers at the start of an activity.
-use Rattle.std.specs.Prelude.{ℕ, [], ◌∷◌}
+-- The registers by name, and at the start of an activity (Intel 80386 manual, section 2.3).
+use Rattle.std.specs.Prelude.{ℕ, [], ◌∷◌, slice_index, slice_set}
 use Rattle.cpu_state.specs.declared.registers.Registers.{Registers}
 use Rattle.cpu_state.specs.Eflags.{flags_of}
+
+-- the general registers
+abbrev pub eax : Registers → ℕ
+eax r = slice_index r.general 0
+
+abbrev pub ecx : Registers → ℕ
+ecx r = slice_index r.general 1
+
+abbrev pub edx : Registers → ℕ
+edx r = slice_index r.general 2
+
+abbrev pub ebx : Registers → ℕ
+ebx r = slice_index r.general 3
+
+abbrev pub esp : Registers → ℕ
+esp r = slice_index r.general 4
+
+abbrev pub ebp : Registers → ℕ
+ebp r = slice_index r.general 5
+
+abbrev pub esi : Registers → ℕ
+esi r = slice_index r.general 6
+
+abbrev pub edi : Registers → ℕ
+edi r = slice_index r.general 7
+
+-- another EAX, or ESP
+abbrev pub with_eax : ℕ → Registers → Registers
+with_eax x r = record r { general = slice_set r.general 0 x }
+
+abbrev pub with_esp : ℕ → Registers → Registers
+with_esp x r = record r { general = slice_set r.general 4 x }
 
 -- ESP and EIP as given, EFLAGS 2 and all else 0
 abbrev pub first_registers : ℕ → ℕ → Registers

@@ -1,5 +1,5 @@
 // The bus.
-ghost use Rattle.std.specs.Prelude.{◌≡◌, if◌then◌else◌, ℕ, List, take, length};
+ghost use Rattle.std.specs.Prelude.{◌≡◌, ℕ, List, take, length};
 ghost use Rattle.memory_model.specs.Side.{covers, bytes_from, inside, loaded, stored_inside};
 ghost use Rattle.cpu_state.specs.Width.{size};
 ghost use Rattle.cpu_state.specs.Bus.{State, Ports, all_mine, port_answer, after_port_in, after_port_out};

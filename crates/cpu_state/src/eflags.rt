@@ -1,6 +1,6 @@
 // The flags.
 ghost use Rattle.std.specs.Prelude.{◌≡◌};
-ghost use Rattle.cpu_state.specs.Eflags.{flags_of, word_of, weight as weight_of};
+ghost use Rattle.cpu_state.specs.Eflags.{flags_of, word_of, with_interrupt, weight as weight_of};
 
 use bitflags::{Flag, Flags};
 
@@ -74,6 +74,16 @@ impl Eflags {
             + weight(self.interrupt, INTERRUPT_BIT)
             + weight(self.direction, DIRECTION_BIT)
             + weight(self.overflow, OVERFLOW_BIT)
+    }
+
+    /// The same flags with another interrupt flag.
+    pub fn with_interrupt(self, flag: bool) -> Eflags
+        ensures { result ≡ with_interrupt flag self }
+    {
+        Eflags {
+            interrupt: flag,
+            ..self
+        }
     }
 
     const NONE: Eflags = Eflags {

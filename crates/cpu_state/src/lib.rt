@@ -10,5 +10,7 @@ mod width;
 pub use bus::Bus;
 pub use eflags::Eflags;
 pub use op::Op;
-pub use registers::{Access, Context, Privileged, Registers};
+pub use registers::{
+    Access, Context, EAX, EBP, EBX, ECX, EDI, EDX, ESI, ESP, Privileged, Registers,
+};
 pub use width::Width;

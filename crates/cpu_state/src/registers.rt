@@ -4,8 +4,25 @@ ghost use Rattle.cpu_state.specs.Registers.{first_registers};
 
 use crate::Eflags;
 
-/// The registers of the processor (Intel 80386 manual, section 2.3): EAX ECX EDX EBX ESP EBP ESI EDI as 0 to 7, the
-/// instruction pointer and the flags.
+/// The numbers of the general registers (Intel 80386 manual, section 2.3.1, and the reg field of table 17-2).
+pub const EAX: usize = 0;
+
+pub const ECX: usize = 1;
+
+pub const EDX: usize = 2;
+
+pub const EBX: usize = 3;
+
+pub const ESP: usize = 4;
+
+pub const EBP: usize = 5;
+
+pub const ESI: usize = 6;
+
+pub const EDI: usize = 7;
+
+/// The registers of the processor (Intel 80386 manual, section 2.3): the general ones by their numbers, the instruction
+/// pointer and the flags.
 #[derive(Clone, Copy, PartialEq, Eq, Debug)]
 pub struct Registers {
     pub general: [u32; 8],
@@ -21,8 +38,10 @@ impl Registers {
     pub fn new(eip: u32, esp: u32) -> Registers
         ensures { result ≡ first_registers eip esp }
     {
+        let mut general = [0; 8];
+        general[ESP] = esp;
         Registers {
-            general: [0, 0, 0, 0, esp, 0, 0, 0],
+            general,
             eip,
             eflags: Eflags::from_word(2),
         }

@@ -1,6 +1,6 @@
 // The widths of operands.
-ghost use Rattle.std.specs.Prelude.{◌≡◌};
-ghost use Rattle.cpu_state.specs.Width.{size, modulus};
+ghost use Rattle.std.specs.Prelude.{◌≡◌, ◌≤◌};
+ghost use Rattle.cpu_state.specs.Width.{size, bits, modulus, top};
 
 /// The width of an operand: a byte, a word or a doubleword (Intel 80386 manual, section 2.2).
 #[derive(Clone, Copy, PartialEq, Eq, Debug)]
@@ -22,6 +22,14 @@ impl Width {
         }
     }
 
+    /// How many bits an operand has.
+    pub fn bits(self) -> u32
+        ensures value { result ≡ bits self }
+        ensures small { result ≤ 32 }
+    {
+        8 * self.bytes()
+    }
+
     /// One more than the greatest unsigned operand.
     pub fn modulus(self) -> u64
         ensures { result ≡ modulus self }
@@ -31,5 +39,12 @@ impl Width {
             Width::W16 => 0x1_0000,
             Width::W32 => 0x1_0000_0000,
         }
+    }
+
+    /// Whether the top bit of an operand is set, which is its sign.
+    pub fn top_bit(self, a: u32) -> bool
+        ensures { result ≡ top self a }
+    {
+        u64::from(a) >= self.modulus() / 2
     }
 }

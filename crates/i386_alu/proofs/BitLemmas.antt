@@ -6,10 +6,9 @@ use lib.Bits.{bit_and, or_add_and, xor_add_and}
 use Rattle.std.proofs.lemmas.Nat.{and-not, and_comm, or_lt, xor_lt, pow_below}
 use Rattle.std.proofs.lemmas.Nat.Bits.{and_pow, bit_at-lt}
 use Rattle.std.proofs.Math.Nat.{mod-eq_of_lt}
-use Rattle.cpu_state.specs.Width.{modulus}
+use Rattle.cpu_state.specs.Width.{bits, modulus}
 use Rattle.cpu_state.specs.declared.width.Width.{Width}
 use Rattle.cpu_state.specs.declared.width.Width.TheVariants.{W8, W16, W32}
-use Rattle.i386_alu.specs.Operand.{bits_of}
 use Rattle.i386_alu.specs.Bit.{with_bit, without_bit, with_bit_turned}
 
 mask : (i : ℕ) → i < 32 → 1 * 2 ^ i % 4294967296 ≡ 2 ^ i
@@ -50,12 +49,12 @@ and_not_mask a i fits h =
     rw (mask i h) (grind arith)
 
 -- an operand with a bit set or turned has its width
-pub with_bit_fits : (w : Width) (a i : ℕ) → a < modulus w → i < bits_of w → with_bit a i < modulus w
+pub with_bit_fits : (w : Width) (a i : ℕ) → a < modulus w → i < bits w → with_bit a i < modulus w
 with_bit_fits W8 a i fits h = rw (sym (or_power a i)) (or_lt 8 a (2 ^ i) fits (pow_below i 8 h))
 with_bit_fits W16 a i fits h = rw (sym (or_power a i)) (or_lt 16 a (2 ^ i) fits (pow_below i 16 h))
 with_bit_fits W32 a i fits h = rw (sym (or_power a i)) (or_lt 32 a (2 ^ i) fits (pow_below i 32 h))
 
-pub with_bit_turned_fits : (w : Width) (a i : ℕ) → a < modulus w → i < bits_of w → with_bit_turned a i < modulus w
+pub with_bit_turned_fits : (w : Width) (a i : ℕ) → a < modulus w → i < bits w → with_bit_turned a i < modulus w
 with_bit_turned_fits W8 a i fits h = rw (sym (xor_power a i)) (xor_lt 8 a (2 ^ i) fits (pow_below i 8 h))
 with_bit_turned_fits W16 a i fits h = rw (sym (xor_power a i)) (xor_lt 16 a (2 ^ i) fits (pow_below i 16 h))
 with_bit_turned_fits W32 a i fits h = rw (sym (xor_power a i)) (xor_lt 32 a (2 ^ i) fits (pow_below i 32 h))

@@ -4,9 +4,9 @@ use Rattle.cpu_state.specs.Eflags.{bit}
 use Rattle.cpu_state.specs.declared.eflags.Eflags.{Eflags}
 use Rattle.cpu_state.specs.declared.op.Op.{Op}
 use Rattle.cpu_state.specs.declared.op.Op.TheVariants.{Bt, Bts, Btr, Btc}
+use Rattle.cpu_state.specs.Width.{bits}
 use Rattle.cpu_state.specs.declared.width.Width.{Width}
 use Rattle.i386_alu.specs.Computed.{Computed, unchanged}
-use Rattle.i386_alu.specs.Operand.{bits_of}
 
 -- an operand with the bit at a place set, and with it clear
 abbrev pub with_bit : ℕ → ℕ → ℕ
@@ -24,8 +24,8 @@ tested a i r f = record { value = r; flags = record f { carry = bit a i } }
 
 -- row by row, by the place modulo the width; any other operation leaves all as it is
 unfoldable pub bit_of : Op → Width → ℕ → ℕ → Eflags → Computed
-bit_of Bt w a place f = tested a (place % bits_of w) a f
-bit_of Bts w a place f = tested a (place % bits_of w) (with_bit a (place % bits_of w)) f
-bit_of Btr w a place f = tested a (place % bits_of w) (without_bit a (place % bits_of w)) f
-bit_of Btc w a place f = tested a (place % bits_of w) (with_bit_turned a (place % bits_of w)) f
+bit_of Bt w a place f = tested a (place % bits w) a f
+bit_of Bts w a place f = tested a (place % bits w) (with_bit a (place % bits w)) f
+bit_of Btr w a place f = tested a (place % bits w) (without_bit a (place % bits w)) f
+bit_of Btc w a place f = tested a (place % bits w) (with_bit_turned a (place % bits w)) f
 bit_of op w a place f = unchanged a f

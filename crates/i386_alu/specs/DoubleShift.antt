@@ -3,9 +3,10 @@ use Rattle.std.specs.Prelude.{ℕ, zero, suc, ◌%◌, ◌==◌, nat_lt, Bool, f
 use Rattle.cpu_state.specs.declared.eflags.Eflags.{Eflags}
 use Rattle.cpu_state.specs.declared.op.Op.{Op}
 use Rattle.cpu_state.specs.declared.op.Op.TheVariants.{Shld, Shrd}
+use Rattle.cpu_state.specs.Width.{bits, top}
 use Rattle.cpu_state.specs.declared.width.Width.{Width}
 use Rattle.i386_alu.specs.Computed.{Computed, unchanged}
-use Rattle.i386_alu.specs.Operand.{bits_of, top, of_result}
+use Rattle.i386_alu.specs.Operand.{of_result}
 use Rattle.i386_alu.specs.Shift.{lowest, leftward, rightward}
 
 -- an operand, what is left of the other one that fills it, and the last bit out
@@ -40,7 +41,7 @@ filled_of op w a b n = fills_of op w n (record { value = a; source = b; out = fa
 -- by n places: by none, or by more than the operand has, nothing changes at all
 abbrev pub filling_of : Op → Width → ℕ → ℕ → ℕ → Eflags → Computed
 filling_of op w a b n f =
-    if n == 0 || nat_lt (bits_of w) n then unchanged a f
+    if n == 0 || nat_lt (bits w) n then unchanged a f
     else record {
       value = (filled_of op w a b n).value;
       flags = record (of_result w (filled_of op w a b n).value f) { carry = (filled_of op w a b n).out };

@@ -1,17 +1,9 @@
 -- Operands of a width as unsigned and signed whole numbers, and what the flags say of a result (Intel 80386 manual, sections
 -- 2.2.2 and 2.3.4, appendix C).
-use Rattle.std.specs.Prelude.{ℕ, ◌-◌, ◌*◌, ◌/◌, ◌%◌, ◌==◌, nat_le, Bool, not, ◌||◌, if◌then◌else◌, ℤ, pos, negsuc, ◌-ℤ◌, int_lt, count_ones}
-use Rattle.cpu_state.specs.Width.{size, modulus}
+use Rattle.std.specs.Prelude.{ℕ, ◌-◌, ◌/◌, ◌%◌, ◌==◌, Bool, not, ◌||◌, if◌then◌else◌, ℤ, pos, negsuc, ◌-ℤ◌, int_lt, count_ones}
+use Rattle.cpu_state.specs.Width.{modulus, top}
 use Rattle.cpu_state.specs.declared.eflags.Eflags.{Eflags}
 use Rattle.cpu_state.specs.declared.width.Width.{Width}
-
--- how many bits an operand has
-abbrev pub bits_of : Width → ℕ
-bits_of w = 8 * size w
-
--- the top bit of an operand, which is its sign
-abbrev pub top : Width → ℕ → Bool
-top w a = nat_le (modulus w / 2) a
 
 -- an operand as a signed number
 abbrev pub signed : Width → ℕ → ℤ

@@ -1,12 +1,12 @@
 -- Shifts and rotations as so many single ones (Intel 80386 manual, sections 3.4.4.1 and 3.4.4.3, chapter 17, appendix C).
 use Rattle.std.specs.Prelude.{ℕ, zero, suc, ◌+◌, ◌*◌, ◌/◌, ◌%◌, ◌==◌, nat_le, Bool, false, if◌then◌else◌}
-use Rattle.cpu_state.specs.Width.{modulus}
+use Rattle.cpu_state.specs.Width.{modulus, top}
 use Rattle.cpu_state.specs.declared.eflags.Eflags.{Eflags}
 use Rattle.cpu_state.specs.declared.op.Op.{Op}
 use Rattle.cpu_state.specs.declared.op.Op.TheVariants.{Rol, Ror, Rcl, Rcr, Shl, Shr, Sar}
 use Rattle.cpu_state.specs.declared.width.Width.{Width}
 use Rattle.i386_alu.specs.Computed.{Computed, unchanged}
-use Rattle.i386_alu.specs.Operand.{top, carried, differ, of_result}
+use Rattle.i386_alu.specs.Operand.{carried, differ, of_result}
 
 -- an operand with the carry flag beside it
 pub record Moved : Type 0 where

@@ -1,12 +1,10 @@
 // Bit tests and bit scans.
 ghost use Rattle.std.specs.Prelude.{◌≡◌, ◌<◌, ◌^◌};
-ghost use Rattle.cpu_state.specs.Width.{modulus};
+ghost use Rattle.cpu_state.specs.Width.{bits, modulus};
 ghost use Rattle.cpu_state.specs.Eflags.{bit as bit_at_place};
-ghost use Rattle.i386_alu.specs.Operand.{bits_of};
 ghost use Rattle.i386_alu.specs.Bit.{with_bit, without_bit, with_bit_turned, bit_of};
 ghost use Rattle.i386_alu.specs.Scan.{lowest_set, highest_set, scan_of};
 
-use crate::operand::bits_of;
 use cpu_state::{Eflags, Op, Width};
 
 // The bit at a place.
@@ -21,7 +19,7 @@ fn bit_at(a: u32, place: u32) -> bool
 #[tactic(auto, using(crate::proofs::BitLemmas::or_mask, crate::proofs::BitLemmas::with_bit_fits))]
 fn with_bit(width: Width, a: u32, place: u32) -> u32
     requires a_fits { a < modulus width }
-    requires place_fits { place < bits_of width }
+    requires place_fits { place < bits width }
     ensures value { result ≡ with_bit a place }
     ensures fits { result < modulus width }
 {
@@ -41,7 +39,7 @@ fn without_bit(a: u32, place: u32) -> u32
 #[tactic(auto, using(crate::proofs::BitLemmas::xor_mask, crate::proofs::BitLemmas::with_bit_turned_fits))]
 fn with_bit_turned(width: Width, a: u32, place: u32) -> u32
     requires a_fits { a < modulus width }
-    requires place_fits { place < bits_of width }
+    requires place_fits { place < bits width }
     ensures value { result ≡ with_bit_turned a place }
     ensures fits { result < modulus width }
 {
@@ -58,7 +56,7 @@ pub fn bit(op: Op, width: Width, a: u32, place: u8, flags: Eflags) -> (u32, Efla
     ensures flags { result.1 ≡ (bit_of op width a place flags).flags }
     ensures fits { result.0 < modulus width }
 {
-    let place = place as u32 % bits_of(width);
+    let place = place as u32 % width.bits();
     let after = Eflags {
         carry: bit_at(a, place),
         ..flags

@@ -3,7 +3,7 @@ ghost use Rattle.std.specs.Prelude.{◌≡◌, ◌<◌};
 ghost use Rattle.cpu_state.specs.Width.{modulus};
 ghost use Rattle.i386_alu.specs.DoubleShift.{fill_of, filled_of, double_shift_of};
 
-use crate::operand::{bits_of, of_result, top};
+use crate::operand::of_result;
 use crate::shifts::{leftward, lowest, rightward};
 use cpu_state::{Eflags, Op, Width};
 
@@ -20,9 +20,9 @@ fn fill(op: Op, width: Width, a: u32, source: u32, out: bool) -> (u32, u32, bool
 {
     match op {
         Op::Shld => (
-            leftward(width, a, top(width, source)),
+            leftward(width, a, width.top_bit(source)),
             leftward(width, source, false),
-            top(width, a),
+            width.top_bit(a),
         ),
         Op::Shrd => (
             rightward(width, a, lowest(source)),
@@ -62,7 +62,7 @@ pub fn double_shift(op: Op, width: Width, a: u32, b: u32, count: u8, flags: Efla
     ensures fits { result.0 < modulus width }
 {
     let count = count % 32;
-    if count == 0 || count as u32 > bits_of(width) {
+    if count == 0 || count as u32 > width.bits() {
         return (a, flags);
     }
     let (value, carry) = fills(op, width, count, a, b);

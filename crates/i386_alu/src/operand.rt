@@ -1,23 +1,9 @@
 // Operands as numbers, and the flags of a result.
-ghost use Rattle.std.specs.Prelude.{◌≡◌, ◌<◌, ◌+◌, ◌-◌, ◌*◌, ◌%◌, ◌≤◌, pos, ◌^◌, ◌≤ℤ◌, ◌<ℤ◌, ◌-ℤ◌};
+ghost use Rattle.std.specs.Prelude.{◌≡◌, ◌<◌, ◌-◌, ◌*◌, ◌%◌, ◌≤◌, pos, ◌^◌, ◌≤ℤ◌, ◌<ℤ◌, ◌-ℤ◌};
 ghost use Rattle.cpu_state.specs.Width.{modulus};
-ghost use Rattle.i386_alu.specs.Operand.{bits_of, top, signed, leaves, wrapped, carried, of_result};
+ghost use Rattle.i386_alu.specs.Operand.{signed, leaves, wrapped, carried, of_result};
 
 use cpu_state::{Eflags, Width};
-
-// How many bits an operand has.
-pub(crate) fn bits_of(width: Width) -> u32
-    ensures { result ≡ bits_of width }
-{
-    8 * width.bytes()
-}
-
-// The top bit of an operand.
-pub(crate) fn top(width: Width, a: u32) -> bool
-    ensures { result ≡ top width a }
-{
-    a as u64 >= width.modulus() / 2
-}
 
 // An operand as a signed number.
 pub(crate) fn signed(width: Width, a: u32) -> i64
@@ -26,7 +12,7 @@ pub(crate) fn signed(width: Width, a: u32) -> i64
     ensures low { (pos 0 -ℤ pos (2 ^ 31)) ≤ℤ result }
     ensures high { result <ℤ pos (2 ^ 31) }
 {
-    if top(width, a) {
+    if width.top_bit(a) {
         a as i64 - width.modulus() as i64
     } else {
         a as i64
@@ -56,7 +42,7 @@ pub(crate) fn of_result(width: Width, value: u32, flags: Eflags) -> Eflags
     Eflags {
         parity: (value % 256).count_ones() % 2 == 0,
         zero: value == 0,
-        sign: top(width, value),
+        sign: width.top_bit(value),
         ..flags
     }
 }

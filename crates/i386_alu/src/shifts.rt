@@ -3,7 +3,7 @@ ghost use Rattle.std.specs.Prelude.{◌≡◌, ◌<◌};
 ghost use Rattle.cpu_state.specs.Width.{modulus};
 ghost use Rattle.i386_alu.specs.Shift.{lowest, below_top, leftward, rightward, single_of, singles_of, overflow_of, shift_of};
 
-use crate::operand::{carried, of_result, top};
+use crate::operand::{carried, of_result};
 use cpu_state::{Eflags, Op, Width};
 
 // The lowest bit of an operand.
@@ -47,7 +47,7 @@ fn single(op: Op, width: Width, a: u32, carry: bool) -> (u32, bool)
     ensures carry { result.1 ≡ (single_of op width (record { value = a; carry = carry })).carry }
     ensures fits { result.0 < modulus width }
 {
-    let high = top(width, a);
+    let high = width.top_bit(a);
     let low = lowest(a);
     match op {
         Op::Rol => (leftward(width, a, high), high),
@@ -82,12 +82,12 @@ fn overflows(op: Op, width: Width, a: u32, value: u32, carry: bool) -> bool
     ensures { result ≡ overflow_of op width a (record { value = value; carry = carry }) }
 {
     match op {
-        Op::Rol => top(width, value) != carry,
-        Op::Rcl => top(width, value) != carry,
-        Op::Ror => top(width, value) != below_top(width, value),
-        Op::Rcr => top(width, value) != below_top(width, value),
-        Op::Shl => top(width, value) != carry,
-        Op::Shr => top(width, a),
+        Op::Rol => width.top_bit(value) != carry,
+        Op::Rcl => width.top_bit(value) != carry,
+        Op::Ror => width.top_bit(value) != below_top(width, value),
+        Op::Rcr => width.top_bit(value) != below_top(width, value),
+        Op::Shl => width.top_bit(value) != carry,
+        Op::Shr => width.top_bit(a),
         _ => false,
     }
 }

@@ -6,7 +6,7 @@ ghost use Rattle.i386_effects.specs.Change.{stores_of, whole};
 ghost use Rattle.i386_effects.specs.Effect.{changed, committed};
 
 use crate::lists::{Stores, Touch, Words, Write};
-use crate::operands::set_part;
+use crate::operands::{ACCUMULATOR, set_part};
 use cpu_state::{Access, Bus, Privileged, Registers, Width};
 
 /// What an instruction does beside its registers, once its loads are made.
@@ -141,7 +141,7 @@ fn apply_exactly<B: Bus>(
         Ending::In(port, width) => match bus.port_in(*port, *width) {
             Some(answer) => {
                 *regs = *after;
-                set_part(*width, 0, answer, &mut regs.general);
+                set_part(*width, ACCUMULATOR, answer, &mut regs.general);
                 Outcome::Performed
             }
             None => Outcome::Port(*port),

@@ -7,5 +7,5 @@ mod lists;
 mod operands;
 
 pub use change::{Ending, Outcome, apply, commit, load_all};
-pub use lists::{Stores, Touch, Touches, Words, Write};
-pub use operands::{address, part, set, set_part, store, touch, value};
+pub use lists::{Stores, Touch, Touches, Words, Write, word};
+pub use operands::{ACCUMULATOR, AH, DATA, address, part, set, set_part, store, touch, value};

@@ -1,5 +1,5 @@
 // Short lists that take no memory: no instruction has more than seven loads (POPA) or eight stores (PUSHA).
-ghost use Rattle.std.specs.Prelude.{◌≡◌, ◌+◌, ◌<◌, [], ◌∷◌, ◌++◌, length};
+ghost use Rattle.std.specs.Prelude.{◌≡◌, ◌+◌, ◌<◌, [], ◌∷◌, ◌++◌, length, slice_index};
 
 use cpu_state::Width;
 use std::marker::Model;
@@ -113,6 +113,13 @@ impl Words {
     {
         &self.cells[..self.count]
     }
+}
+
+/// The word at a place, or 0.
+pub fn word(words: &[u32], place: usize) -> u32
+    ensures { result ≡ slice_index words.now place }
+{
+    if place < words.len() { words[place] } else { 0 }
 }
 
 /// Stores in order: none, one, or the eight of PUSHA.

@@ -5,8 +5,15 @@ ghost use Rattle.i386_effects.specs.Change.{stores_of};
 ghost use Rattle.i386_effects.specs.Operands.{part, with_part, base_of, index_of, address_of, value_of, touches_of, with_operand, writes_to};
 
 use crate::lists::{Stores, Touch, Touches, Write};
-use cpu_state::Width;
+use cpu_state::{EAX, EDX, Width};
 use i386_decode::{Address, Operand};
+
+/// AL, AX or EAX, DX or EDX, and AH, by their numbers among the registers of a width.
+pub const ACCUMULATOR: u8 = EAX as u8;
+
+pub const DATA: u8 = EDX as u8;
+
+pub const AH: u8 = 4;
 
 /// A register of a width (Intel 80386 manual, section 2.3.1): of 32 bits, its low 16, or its lowest byte or the next
 /// one.

@@ -1,11 +1,10 @@
 -- Bit tests and bit scans (Intel 80386 manual, sections 3.4.2 and 3.4.3, and BT, BTS, BTR, BTC, BSF and BSR in chapter 17).
 use Rattle.std.specs.Prelude.{ℕ, ◌+◌, ◌-◌, ◌*◌, ◌/◌, ◌%◌, ◌^◌, List, [], ◌∷◌, Option, Some, None, if◌then◌else◌}
-use Rattle.cpu_state.specs.Width.{size, modulus}
+use Rattle.cpu_state.specs.Width.{size, bits, modulus, top}
 use Rattle.cpu_state.specs.declared.registers.Registers.{Registers}
 use Rattle.cpu_state.specs.declared.width.Width.{Width}
 use Rattle.i386_alu.specs.Bit.{bit_of}
 use Rattle.i386_alu.specs.Computed.{Computed}
-use Rattle.i386_alu.specs.Operand.{bits_of, top}
 use Rattle.i386_alu.specs.Scan.{scan_of}
 use Rattle.i386_decode.specs.declared.form.Form.{Form}
 use Rattle.i386_decode.specs.declared.form.Operand.{Operand}
@@ -19,7 +18,7 @@ use Rattle.i386_execute.specs.Results.{first, second, computed, flagged}
 -- how many bytes away the operand stands that holds bit n, a signed number of the width, modulo 2^32: n divided by the bits of
 -- an operand and rounded down, in bytes. A number below 0 is its word less the modulus, of which each operand's bits are a part
 abbrev pub bytes_away : Width → ℕ → ℕ
-bytes_away w n = n / bits_of w * size w + (if top w n then 2 ^ 32 - modulus w / 8 else 0)
+bytes_away w n = n / bits w * size w + (if top w n then 2 ^ 32 - modulus w / 8 else 0)
 
 -- where the tested operand stands, if in memory: a register names a bit far or near, an immediate one of the operand itself
 abbrev pub tested_at : Width → Operand → Operand → List ℕ → Option ℕ
@@ -40,7 +39,7 @@ tested_touches f r = touch_at f.width (tested_at f.width f.first f.second r.gene
 
 -- the bit of the operand, by its number modulo the width
 abbrev pub bit_tested : Form → Registers → List ℕ → Computed
-bit_tested f r ws = bit_of f.op f.width (first f r ws) (value_of f.width f.second r.general 0 % bits_of f.width) r.eflags
+bit_tested f r ws = bit_of f.op f.width (first f r ws) (value_of f.width f.second r.general 0 % bits f.width) r.eflags
 
 -- BT keeps the flags alone
 unfoldable pub tested : Form → Registers → List ℕ → Change

@@ -1,5 +1,6 @@
 -- Conditional jumps and loops (Intel 80386 manual, section 3.5.2).
-use Rattle.std.specs.Prelude.{ℕ, ◌+◌, ◌-◌, ◌%◌, ◌^◌, ◌==◌, Bool, true, not, ◌&&◌, List, [], slice_index, slice_set, if◌then◌else◌}
+use Rattle.std.specs.Prelude.{ℕ, ◌+◌, ◌-◌, ◌%◌, ◌^◌, ◌==◌, Bool, true, not, ◌&&◌, List, [], slice_set, if◌then◌else◌}
+use Rattle.cpu_state.specs.Registers.{ecx}
 use Rattle.cpu_state.specs.declared.op.Op.{Op}
 use Rattle.cpu_state.specs.declared.op.Op.TheVariants.{Loope, Loopne}
 use Rattle.cpu_state.specs.declared.registers.Registers.{Registers}
@@ -20,7 +21,7 @@ branched f r = jumped_where (condition_of (value_of W8 f.second r.general 0 % 16
 
 -- ECX less one
 abbrev pub counted : Registers → ℕ
-counted r = (slice_index r.general 1 + (2 ^ 32 - 1)) % 2 ^ 32
+counted r = (ecx r + (2 ^ 32 - 1)) % 2 ^ 32
 
 -- whether ZF lets a loop go on: with LOOP always, with LOOPE where it is set, with LOOPNE where it is clear
 abbrev pub goes_on : Op → Bool → Bool
@@ -34,4 +35,4 @@ looped f r = jumped_where (not (counted r == 0) && goes_on f.op r.eflags.zero) f
 
 -- JECXZ
 unfoldable pub jumped_at_zero : Form → Registers → Change
-jumped_at_zero f r = jumped_where (slice_index r.general 1 == 0) f r r.general
+jumped_at_zero f r = jumped_where (ecx r == 0) f r r.general

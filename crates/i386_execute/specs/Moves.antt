@@ -1,11 +1,12 @@
 -- Data movement (Intel 80386 manual, sections 3.1.1, 3.1.3, 3.4.5 and 3.11).
 use Rattle.std.specs.Prelude.{ℕ, ◌+◌, ◌-◌, ◌%◌, ◌^◌, ◌==◌, List, [], ◌∷◌, slice_index, if◌then◌else◌}
-use Rattle.cpu_state.specs.Width.{modulus}
+use Rattle.cpu_state.specs.Registers.{ebx}
+use Rattle.cpu_state.specs.Width.{modulus, top}
 use Rattle.cpu_state.specs.declared.registers.Registers.{Registers}
 use Rattle.cpu_state.specs.declared.width.Width.{Width}
 use Rattle.cpu_state.specs.declared.width.Width.TheVariants.{W8, W16, W32}
 use Rattle.i386_alu.specs.Condition.{condition_of}
-use Rattle.i386_alu.specs.Operand.{carried, top}
+use Rattle.i386_alu.specs.Operand.{carried}
 use Rattle.i386_decode.specs.declared.form.Form.{Form}
 use Rattle.i386_decode.specs.declared.form.Operand.{Operand}
 use Rattle.i386_decode.specs.declared.form.Operand.TheVariants.{Memory, Immediate}
@@ -71,7 +72,7 @@ addressed f r = assigned f r (place_of f.second r.general)
 
 -- XLAT: AL from the table at EBX, by AL
 unfoldable pub table_touches : Registers → List Touch
-table_touches r = record { at = (slice_index r.general 3 + part W8 0 r.general) % 2 ^ 32; width = W8 } ∷ []
+table_touches r = record { at = (ebx r + part W8 0 r.general) % 2 ^ 32; width = W8 } ∷ []
 
 unfoldable pub translated : Registers → List ℕ → Change
 translated r ws = with_general r (with_part W8 0 (slice_index ws 0) r.general)

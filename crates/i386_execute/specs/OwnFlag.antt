@@ -1,7 +1,8 @@
 -- CLI, STI, PUSHF and POPF on the registers' own interrupt flag (Intel 80386 manual, sections 3.8.2 and 10.5, chapter 17).
 use Rattle.std.specs.Prelude.{ℕ, Bool, true, false, List, [], ◌∷◌, slice_index}
 use Rattle.cpu_state.specs.Bus.{State, Ports}
-use Rattle.cpu_state.specs.Eflags.{word_of, flags_of}
+use Rattle.cpu_state.specs.Eflags.{word_of, flags_of, with_interrupt as with_flag}
+use Rattle.cpu_state.specs.Registers.{with_esp}
 use Rattle.cpu_state.specs.declared.registers.Privileged.{Privileged}
 use Rattle.cpu_state.specs.declared.registers.Privileged.TheVariants as kind
 use Rattle.cpu_state.specs.declared.registers.Registers.{Registers}
@@ -11,7 +12,7 @@ use Rattle.i386_effects.specs.Change.{Change}
 use Rattle.i386_effects.specs.Change as change
 use Rattle.i386_effects.specs.declared.lists.Touch.{Touch}
 use Rattle.i386_execute.specs.Results.{flagged}
-use Rattle.i386_execute.specs.Stack.{below, above, with_esp, top_touches}
+use Rattle.i386_execute.specs.Stack.{below, above, top_touches}
 use Rattle.i386_execute.specs.Unit.{Effect, moved_on, unit_of}
 use Rattle.i386_execute.specs.declared.unit.Stepped.{Stepped}
 use Rattle.i386_execute.specs.declared.unit.Stepped.TheVariants.{Next, Trap, Interrupt, Privileged as PrivilegedUse, Outside, Port}
@@ -33,16 +34,16 @@ flag_loads k r = []
 -- PUSHF stores EFLAGS below the top of the stack; POPF takes all eight flags from the word
 abbrev pub flags_pushed : Registers → Change
 flags_pushed r =
-    change.Done (record r { general = with_esp (below r 4) r.general })
+    change.Done (with_esp (below r 4) r)
     (record { at = below r 4; width = W32; value = word_of r.eflags } ∷ [])
 
 abbrev pub flags_popped : Registers → List ℕ → Change
 flags_popped r ws =
-    change.Done (record r { general = with_esp (above r 4) r.general; eflags = flags_of (slice_index ws 0) }) []
+    change.Done (record (with_esp (above r 4) r) { eflags = flags_of (slice_index ws 0) }) []
 
 -- CLI and STI; no interrupt is held off behind STI
 abbrev pub with_interrupt : Bool → Registers → Change
-with_interrupt b r = flagged r (record r.eflags { interrupt = b })
+with_interrupt b r = flagged r (with_flag b r.eflags)
 
 -- the registers have their EIP behind the instruction already, which has n bytes; IRET and HLT aren't performed so
 unfoldable pub flag_change : Privileged → ℕ → Registers → List ℕ → Change

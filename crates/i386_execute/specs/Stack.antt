@@ -1,5 +1,6 @@
 -- The stack (Intel 80386 manual, sections 3.1.2, 3.5.1 and 3.7).
 use Rattle.std.specs.Prelude.{ℕ, ◌+◌, ◌-◌, ◌*◌, ◌%◌, ◌^◌, List, [], ◌∷◌, slice_index, slice_set}
+use Rattle.cpu_state.specs.Registers.{esp, ebp, with_esp}
 use Rattle.cpu_state.specs.Width.{size}
 use Rattle.cpu_state.specs.declared.registers.Registers.{Registers}
 use Rattle.cpu_state.specs.declared.width.Width.{Width}
@@ -13,13 +14,6 @@ use Rattle.i386_effects.specs.declared.lists.Touch.{Touch}
 use Rattle.i386_effects.specs.declared.lists.Write.{Write}
 use Rattle.i386_execute.specs.Results.{first, with_general}
 
--- ESP and EBP
-abbrev pub esp : Registers → ℕ
-esp r = slice_index r.general 4
-
-abbrev pub ebp : Registers → ℕ
-ebp r = slice_index r.general 5
-
 -- ESP moved down by n bytes, or up, modulo 2^32
 abbrev pub below : Registers → ℕ → ℕ
 below r n = (esp r + (2 ^ 32 - n)) % 2 ^ 32
@@ -27,14 +21,10 @@ below r n = (esp r + (2 ^ 32 - n)) % 2 ^ 32
 abbrev pub above : Registers → ℕ → ℕ
 above r n = (esp r + n) % 2 ^ 32
 
--- the general registers with another ESP
-abbrev pub with_esp : ℕ → List ℕ → List ℕ
-with_esp x g = slice_set g 4 x
-
 -- PUSH: the old value of ESP too
 unfoldable pub pushed : Form → Registers → List ℕ → Change
 pushed f r ws =
-    Done (record r { general = with_esp (below r (size f.width)) r.general })
+    Done (with_esp (below r (size f.width)) r)
     (record { at = below r (size f.width); width = f.width; value = first f r ws } ∷ [])
 
 -- PUSHA: the store of register i
@@ -44,7 +34,7 @@ pushed_register r i = record { at = below r (4 * i + 4); width = W32; value = sl
 -- EAX first and EDI last, with the old ESP
 unfoldable pub all_pushed : Registers → Change
 all_pushed r =
-    Done (record r { general = with_esp (below r 32) r.general })
+    Done (with_esp (below r 32) r)
     (pushed_register r 0 ∷ pushed_register r 1 ∷ pushed_register r 2 ∷ pushed_register r 3 ∷ pushed_register r 4 ∷ pushed_register r 5 ∷ pushed_register r 6 ∷ pushed_register r 7 ∷ [])
 
 -- POP
@@ -56,7 +46,7 @@ popped_into f r x g = Done (record r { general = with_operand f.width f.first x 
 
 -- the address of the operand is computed after ESP has moved, and ESP as operand keeps what was popped
 unfoldable pub popped : Form → Registers → List ℕ → Change
-popped f r ws = popped_into f r (slice_index ws 0) (with_esp (above r (size f.width)) r.general)
+popped f r ws = popped_into f r (slice_index ws 0) (with_esp (above r (size f.width)) r).general
 
 -- POPA: a slot above the top of the stack
 abbrev pub slot : Registers → ℕ → Touch
@@ -75,7 +65,7 @@ unfoldable pub frame_touches : Registers → List Touch
 frame_touches r = record { at = ebp r; width = W32 } ∷ []
 
 unfoldable pub left : Registers → List ℕ → Change
-left r ws = with_general r (with_esp ((ebp r + 4) % 2 ^ 32) (slice_set r.general 5 (slice_index ws 0)))
+left r ws = with_general r (slice_set (with_esp ((ebp r + 4) % 2 ^ 32) r).general 5 (slice_index ws 0))
 
 -- where CALL and JMP go: a displacement counts from behind the instruction
 abbrev pub target_of : Operand → Form → Registers → List ℕ → ℕ
@@ -85,13 +75,13 @@ target_of _ f r ws = first f r ws
 -- CALL pushes the address behind it
 unfoldable pub called : Form → Registers → List ℕ → Change
 called f r ws =
-    Done (record r { general = with_esp (below r 4) r.general; eip = target_of f.first f r ws })
+    Done (record (with_esp (below r 4) r) { eip = target_of f.first f r ws })
     (record { at = below r 4; width = W32; value = r.eip } ∷ [])
 
 -- RET, which drops so many bytes more
 unfoldable pub returned : Form → Registers → List ℕ → Change
 returned f r ws =
-    Done (record r { general = with_esp (above r (4 + value_of W16 f.first r.general 0)) r.general; eip = slice_index ws 0 }) []
+    Done (record (with_esp (above r (4 + value_of W16 f.first r.general 0)) r) { eip = slice_index ws 0 }) []
 
 -- JMP
 unfoldable pub jumped : Form → Registers → List ℕ → Change

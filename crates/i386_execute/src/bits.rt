@@ -1,9 +1,8 @@
 // Bit tests and bit scans.
-ghost use Rattle.std.specs.Prelude.{◌≡◌, ◌<◌, ◌≤◌, ◌^◌, ◌+◌, ◌%◌, length, Option};
+ghost use Rattle.std.specs.Prelude.{◌≡◌, ◌<◌, ◌^◌, ◌+◌, ◌%◌, length, Option};
 ghost use Rattle.cpu_state.specs.Width.{modulus};
-ghost use Rattle.i386_alu.specs.Operand.{bits_of};
 ghost use Rattle.i386_effects.specs.Change.{stores_of, whole};
-ghost use Rattle.i386_execute.specs.Bits.{bytes_away, tested_at, touch_at, write_at, tested_touches, bit_tested, tested, bit_changed, scanned};
+ghost use Rattle.i386_execute.specs.Bits.{bytes_away, tested_at, write_at, tested_touches, bit_tested, tested, bit_changed, scanned};
 
 use crate::results::{computed, first, flagged, second};
 use cpu_state::{Eflags, Registers, Width};
@@ -11,22 +10,14 @@ use i386_alu::{bit, scan};
 use i386_decode::{Form, Operand};
 use i386_effects::{Ending, Stores, Touch, Touches, Write, address, part, set, value};
 
-// How many bits an operand has.
-fn bits_of(width: Width) -> u32
-    ensures value { result ≡ bits_of width }
-    ensures small { result ≤ 32 }
-{
-    8 * width.bytes()
-}
-
 // How many bytes away the operand stands that holds a bit, modulo 2^32.
 fn bytes_away(width: Width, number: u32) -> u64
     requires { number < modulus width }
     ensures value { result ≡ bytes_away width number }
     ensures small { result < 2 ^ 33 }
 {
-    let away = (number / bits_of(width) * width.bytes()) as u64;
-    if number as u64 >= width.modulus() / 2 {
+    let away = (number / width.bits() * width.bytes()) as u64;
+    if width.top_bit(number) {
         away + (0x1_0000_0000 - width.modulus() / 8)
     } else {
         away
@@ -72,7 +63,7 @@ fn bit_tested(form: &Form, regs: &Registers, words: &[u32]) -> (u32, Eflags)
 {
     let a = first(form, regs, words);
     let number = value(form.width, &form.second, &regs.general, 0);
-    let place = (number % bits_of(form.width)) as u8;
+    let place = (number % form.width.bits()) as u8;
     bit(form.op, form.width, a, place, regs.eflags)
 }
 

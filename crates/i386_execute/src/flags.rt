@@ -6,10 +6,7 @@ ghost use Rattle.i386_execute.specs.Flags.{flags_by, flag_changed, taken_from, t
 use crate::results::flagged;
 use cpu_state::{Eflags, Op, Registers, Width};
 use i386_decode::Form;
-use i386_effects::{Ending, Stores, part, set_part};
-
-// The number of AH among the byte registers.
-const AH: u8 = 4;
+use i386_effects::{AH, Ending, Stores, part, set_part};
 
 // The flags after CLC, STC, CMC, CLD or STD.
 #[tactic(auto, unfolding(crate::specs::Flags::flags_by))]

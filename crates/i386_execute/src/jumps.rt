@@ -4,13 +4,10 @@ ghost use Rattle.i386_effects.specs.Change.{whole};
 ghost use Rattle.i386_execute.specs.Jumps.{jumped_where, branched, goes_on, looped, jumped_at_zero};
 
 use crate::results::code;
-use cpu_state::{Op, Registers, Width};
+use cpu_state::{ECX, Op, Registers, Width};
 use i386_alu::condition;
 use i386_decode::Form;
 use i386_effects::{Ending, Stores, value};
-
-// The number of the register that counts.
-const ECX: usize = 1;
 
 // A jump where a test holds.
 fn jumped_where(test: bool, form: &Form, regs: &mut Registers) -> Ending

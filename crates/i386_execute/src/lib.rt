@@ -18,4 +18,4 @@ mod tests;
 mod unit;
 
 pub use own_flag::privileged;
-pub use unit::{Stepped, after, step};
+pub use unit::{DIVIDE_ERROR, INVALID_OPCODE, Stepped, after, step};

@@ -1,24 +1,17 @@
 // Data movement.
 ghost use Rattle.std.specs.Prelude.{◌≡◌, ◌<◌, length};
 ghost use Rattle.cpu_state.specs.Width.{modulus};
-ghost use Rattle.i386_alu.specs.Operand.{top};
 ghost use Rattle.i386_effects.specs.Change.{whole};
 ghost use Rattle.i386_execute.specs.Moves.{copied, exchanged, extended, width_named, extended_touches, narrow, zero_extended, sign_extended, half, widened, sign_spread, place_of, addressed, table_touches, translated, set_where};
 
-use crate::results::{assigned, code, first, second, word};
-use cpu_state::{Registers, Width};
+use crate::results::{assigned, code, first, second};
+use cpu_state::{EBX, Registers, Width};
 use i386_alu::condition;
 use i386_decode::{Form, Operand};
 use i386_effects::{
-    Ending, Stores, Touch, Touches, address, part, set, set_part, store, touch, value,
+    ACCUMULATOR, DATA, Ending, Stores, Touch, Touches, address, part, set, set_part, store, touch,
+    value, word,
 };
-
-// The numbers of general registers: AL, AX and EAX, DX and EDX, EBX.
-const EAX: u8 = 0;
-
-const EDX: u8 = 2;
-
-const EBX: usize = 3;
 
 // MOV.
 #[tactic(auto, unfolding(crate::specs::Moves::copied))]
@@ -42,19 +35,12 @@ pub(crate) fn exchanged(form: &Form, regs: &mut Registers, words: &[u32]) -> End
     Ending::Done(stores)
 }
 
-// Whether the sign of an operand is set.
-fn is_negative(width: Width, a: u32) -> bool
-    ensures { result ≡ top width a }
-{
-    a as u64 >= width.modulus() / 2
-}
-
 // An operand with its sign, as a doubleword.
 fn extended(width: Width, a: u32) -> u32
     requires { a < modulus width }
     ensures { result ≡ extended width a }
 {
-    if is_negative(width, a) {
+    if width.top_bit(a) {
         (a as u64 + (0x1_0000_0000 - width.modulus())) as u32
     } else {
         a
@@ -136,8 +122,13 @@ pub(crate) fn widened(form: &Form, regs: &mut Registers) -> Ending
     ensures { whole result regs.new ≡ widened form.now regs.old }
 {
     let half = half(form.width);
-    let a = part(half, EAX, &regs.general);
-    set_part(form.width, EAX, extended(half, a), &mut regs.general);
+    let a = part(half, ACCUMULATOR, &regs.general);
+    set_part(
+        form.width,
+        ACCUMULATOR,
+        extended(half, a),
+        &mut regs.general,
+    );
     Ending::Done(Stores::Nothing)
 }
 
@@ -146,13 +137,13 @@ pub(crate) fn widened(form: &Form, regs: &mut Registers) -> Ending
 pub(crate) fn sign_spread(form: &Form, regs: &mut Registers) -> Ending
     ensures { whole result regs.new ≡ sign_spread form.now regs.old }
 {
-    let a = part(form.width, EAX, &regs.general);
-    let sign = if is_negative(form.width, a) {
+    let a = part(form.width, ACCUMULATOR, &regs.general);
+    let sign = if form.width.top_bit(a) {
         0xffff_ffff
     } else {
         0
     };
-    set_part(form.width, EDX, sign, &mut regs.general);
+    set_part(form.width, DATA, sign, &mut regs.general);
     Ending::Done(Stores::Nothing)
 }
 
@@ -181,7 +172,7 @@ pub(crate) fn table_touches(regs: &Registers) -> Touches
     ensures value { result ≡ table_touches regs.now }
     ensures short { length result < 9 }
 {
-    let index = part(Width::W8, EAX, &regs.general);
+    let index = part(Width::W8, ACCUMULATOR, &regs.general);
     let mut touches = Touches::new();
     touches.push(Touch {
         at: regs.general[EBX].wrapping_add(index),
@@ -195,7 +186,7 @@ pub(crate) fn table_touches(regs: &Registers) -> Touches
 pub(crate) fn translated(regs: &mut Registers, words: &[u32]) -> Ending
     ensures { whole result regs.new ≡ translated regs.old words.now }
 {
-    set_part(Width::W8, EAX, word(words, 0), &mut regs.general);
+    set_part(Width::W8, ACCUMULATOR, word(words, 0), &mut regs.general);
     Ending::Done(Stores::Nothing)
 }
 

@@ -4,11 +4,10 @@ ghost use Rattle.memory_model.specs.Laws.{SamePlace};
 ghost use Rattle.i386_effects.specs.Change.{whole};
 ghost use Rattle.i386_execute.specs.OwnFlag.{is_on_flag, flag_loads, flags_pushed, flags_popped, with_interrupt, flag_change, flag_unit, IsNextOrOutside};
 
-use crate::results::word;
-use crate::stack::{ESP, above, below, top_touches};
+use crate::stack::{above, below, top_touches};
 use crate::unit::{Stepped, moved_on, stepped_by};
-use cpu_state::{Access, Bus, Eflags, Privileged, Registers, Width};
-use i386_effects::{Ending, Stores, Touches, Words, Write, apply, load_all};
+use cpu_state::{Access, Bus, ESP, Eflags, Privileged, Registers, Width};
+use i386_effects::{Ending, Stores, Touches, Words, Write, apply, load_all, word};
 
 // How many bytes PUSHF and POPF move on the stack.
 const FLAGS_SIZE: u32 = 4;
@@ -50,7 +49,7 @@ fn flags_popped(regs: &mut Registers, words: &[u32]) -> Ending
 fn with_interrupt(interrupt: bool, regs: &mut Registers) -> Ending
     ensures { whole result regs.new ≡ with_interrupt interrupt regs.old }
 {
-    regs.eflags.interrupt = interrupt;
+    regs.eflags = regs.eflags.with_interrupt(interrupt);
     Ending::Done(Stores::Nothing)
 }
 

@@ -4,25 +4,20 @@ ghost use Rattle.i386_effects.specs.Change.{whole};
 ghost use Rattle.i386_execute.specs.Products.{high_half, with_halves, multiplied, signed_multiplied, divided_into, divided};
 
 use crate::results::{computed, first, second};
+use crate::unit::DIVIDE_ERROR;
 use cpu_state::{Registers, Width};
 use i386_alu::{divide, multiply};
 use i386_decode::{Form, Operand};
-use i386_effects::{Ending, Stores, part, set_part, value};
-
-/// The exception of a divide error (Intel 80386 manual, section 9.8.1).
-const DIVIDE_ERROR: u8 = 0;
-
-// The low half of a product or a dividend is in AL, AX or EAX.
-const LOW_HALF: u8 = 0;
+use i386_effects::{ACCUMULATOR, AH, DATA, Ending, Stores, part, set_part, value};
 
 // The register of the high half: AH, DX or EDX.
 fn high_half(width: Width) -> u8
     ensures { result ≡ high_half width }
 {
     match width {
-        Width::W8 => 4,
-        Width::W16 => 2,
-        Width::W32 => 2,
+        Width::W8 => AH,
+        Width::W16 => DATA,
+        Width::W32 => DATA,
     }
 }
 
@@ -30,7 +25,7 @@ fn high_half(width: Width) -> u8
 fn set_halves(width: Width, low: u32, high: u32, general: &mut [u32; 8])
     ensures { general.new ≡ with_halves width low high general.old }
 {
-    set_part(width, LOW_HALF, low, general);
+    set_part(width, ACCUMULATOR, low, general);
     set_part(width, high_half(width), high, general);
 }
 
@@ -39,7 +34,7 @@ fn set_halves(width: Width, low: u32, high: u32, general: &mut [u32; 8])
 pub(crate) fn multiplied(signed: bool, form: &Form, regs: &mut Registers, words: &[u32]) -> Ending
     ensures { whole result regs.new ≡ multiplied signed form.now regs.old words.now }
 {
-    let a = part(form.width, LOW_HALF, &regs.general);
+    let a = part(form.width, ACCUMULATOR, &regs.general);
     let b = first(form, regs, words);
     let (low, high, eflags) = multiply(signed, form.width, a, b, regs.eflags);
     set_halves(form.width, low, high, &mut regs.general);
@@ -83,7 +78,7 @@ pub(crate) fn divided(signed: bool, form: &Form, regs: &mut Registers, words: &[
     ensures { whole result regs.new ≡ divided signed form.now regs.old words.now }
 {
     let high = part(form.width, high_half(form.width), &regs.general);
-    let low = part(form.width, LOW_HALF, &regs.general);
+    let low = part(form.width, ACCUMULATOR, &regs.general);
     let by = first(form, regs, words);
     let quotient = divide(signed, form.width, high, low, by);
     divided_into(quotient, form, regs)

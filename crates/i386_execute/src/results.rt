@@ -1,5 +1,5 @@
 // Where the results of an instruction go.
-ghost use Rattle.std.specs.Prelude.{◌≡◌, ◌<◌, ◌%◌, slice_index};
+ghost use Rattle.std.specs.Prelude.{◌≡◌, ◌<◌, ◌%◌};
 ghost use Rattle.cpu_state.specs.Width.{modulus};
 ghost use Rattle.i386_effects.specs.Operands.{value_of};
 ghost use Rattle.i386_effects.specs.Change.{whole};
@@ -7,14 +7,7 @@ ghost use Rattle.i386_execute.specs.Results.{first, second, computed, assigned, 
 
 use cpu_state::{Eflags, Registers, Width};
 use i386_decode::{Form, Operand};
-use i386_effects::{Ending, Stores, set, store, value};
-
-// The word at a place, or 0.
-pub(crate) fn word(words: &[u32], place: usize) -> u32
-    ensures { result ≡ slice_index words.now place }
-{
-    if place < words.len() { words[place] } else { 0 }
-}
+use i386_effects::{Ending, Stores, set, store, value, word};
 
 // The value of the first operand.
 pub(crate) fn first(form: &Form, regs: &Registers, words: &[u32]) -> u32

@@ -1,17 +1,12 @@
 // The stack.
-ghost use Rattle.std.specs.Prelude.{◌≡◌, ◌<◌, ◌+◌, ◌^◌, [], ◌∷◌, ◌++◌, length};
+ghost use Rattle.std.specs.Prelude.{◌≡◌, ◌<◌, ◌+◌, [], ◌∷◌, ◌++◌, length};
 ghost use Rattle.i386_effects.specs.Change.{whole};
 ghost use Rattle.i386_execute.specs.Stack.{below, above, pushed_register, slot, pushed, all_pushed, top_touches, popped, all_touches, all_popped, frame_touches, left, target_of, called, returned, jumped};
 
-use crate::results::{first, port, word};
-use cpu_state::{Registers, Width};
+use crate::results::{first, port};
+use cpu_state::{EAX, EBP, EBX, ECX, EDI, EDX, ESI, ESP, Registers, Width};
 use i386_decode::{Form, Operand};
-use i386_effects::{Ending, Stores, Touch, Touches, Write, set, store};
-
-// The numbers of general registers.
-pub(crate) const ESP: usize = 4;
-
-const EBP: usize = 5;
+use i386_effects::{Ending, Stores, Touch, Touches, Write, set, store, word};
 
 // ESP moved down by n bytes.
 pub(crate) fn below(regs: &Registers, n: u32) -> u32
@@ -43,14 +38,14 @@ pub(crate) fn pushed(form: &Form, regs: &mut Registers, words: &[u32]) -> Ending
 }
 
 // The store of one register by PUSHA.
-fn pushed_register(regs: &Registers, i: u8) -> Write
+fn pushed_register(regs: &Registers, i: usize) -> Write
     requires { i < 8 }
     ensures { result ≡ pushed_register regs.now i }
 {
     Write {
         at: below(regs, 4 * i as u32 + 4),
         width: Width::W32,
-        value: regs.general[i as usize],
+        value: regs.general[i],
     }
 }
 
@@ -60,14 +55,14 @@ pub(crate) fn all_pushed(regs: &mut Registers) -> Ending
     ensures { whole result regs.new ≡ all_pushed regs.old }
 {
     let writes = [
-        pushed_register(regs, 0),
-        pushed_register(regs, 1),
-        pushed_register(regs, 2),
-        pushed_register(regs, 3),
-        pushed_register(regs, 4),
-        pushed_register(regs, 5),
-        pushed_register(regs, 6),
-        pushed_register(regs, 7),
+        pushed_register(regs, EAX),
+        pushed_register(regs, ECX),
+        pushed_register(regs, EDX),
+        pushed_register(regs, EBX),
+        pushed_register(regs, ESP),
+        pushed_register(regs, EBP),
+        pushed_register(regs, ESI),
+        pushed_register(regs, EDI),
     ];
     regs.general[ESP] = below(regs, 32);
     Ending::Done(Stores::Eight(writes))

@@ -29,8 +29,11 @@ pub enum Stepped {
     Port(u16),
 }
 
-/// The exception of an invalid opcode (Intel 80386 manual, section 9.8.6).
-pub(crate) const INVALID_OPCODE: u8 = 6;
+/// The exceptions that the processor raises itself: a divide error and an invalid opcode (Intel 80386 manual, sections
+/// 9.8.1 and 9.8.6).
+pub const DIVIDE_ERROR: u8 = 0;
+
+pub const INVALID_OPCODE: u8 = 6;
 
 // An address so many bytes on.
 fn onward(eip: u32, count: u32) -> u32

@@ -2,6 +2,7 @@
 -- 17).
 use Rattle.std.specs.Prelude.{ℕ, ◌+◌, ◌-◌, ◌%◌, ◌^◌, ◌==◌, Bool, true, false, not, ◌&&◌, ◌||◌, List, [], ◌∷◌, Option, Some, None, Result, Ok, Err, slice_index, slice_set, if◌then◌else◌}
 use Rattle.cpu_state.specs.Bus.{State}
+use Rattle.cpu_state.specs.Registers.{ecx, esi, edi}
 use Rattle.cpu_state.specs.Width.{size, modulus}
 use Rattle.cpu_state.specs.declared.eflags.Eflags.{Eflags}
 use Rattle.cpu_state.specs.declared.op.Op.{Op}
@@ -20,16 +21,6 @@ use Rattle.i386_effects.specs.declared.lists.Touch.{Touch}
 use Rattle.i386_effects.specs.declared.lists.Write.{Write}
 use Rattle.i386_strings.specs.declared.iteration.Iteration.{Iteration}
 use Rattle.i386_strings.specs.declared.iteration.Iteration.TheVariants.{More, Finished, Outside}
-
--- ESI, EDI and ECX
-abbrev pub esi : Registers → ℕ
-esi r = slice_index r.general 6
-
-abbrev pub edi : Registers → ℕ
-edi r = slice_index r.general 7
-
-abbrev pub ecx : Registers → ℕ
-ecx r = slice_index r.general 1
 
 -- the loads of each mnemonic, in order
 abbrev pub string_loads : Op → Width → Registers → List Touch

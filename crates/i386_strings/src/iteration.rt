@@ -1,15 +1,17 @@
 // One iteration.
-ghost use Rattle.std.specs.Prelude.{◌≡◌, ◌<◌, length, true, slice_index};
+ghost use Rattle.std.specs.Prelude.{◌≡◌, ◌<◌, length, true};
 ghost use Rattle.memory_model.specs.Laws.{SamePlace};
 ghost use Rattle.cpu_state.specs.Width.{modulus};
 ghost use Rattle.i386_decode.specs.WellFormed.{is_string};
 ghost use Rattle.i386_effects.specs.Change.{stores_of};
 ghost use Rattle.i386_strings.specs.Iteration.{string_loads, string_writes, string_flags, compared, with_loaded, moved, moved_where, uses_source, uses_target, repeats, counted, iterated, compares, is_decided, is_last, iteration, StaysOutside};
 
-use cpu_state::{Access, Bus, Eflags, Op, Registers, Width};
+use cpu_state::{Access, Bus, ECX, EDI, ESI, Eflags, Op, Registers, Width};
 use i386_alu::binary;
 use i386_decode::{Form, Repeat};
-use i386_effects::{Stores, Touch, Touches, Words, Write, commit, load_all, part, set_part};
+use i386_effects::{
+    ACCUMULATOR, Stores, Touch, Touches, Words, Write, commit, load_all, part, set_part, word,
+};
 
 /// What an iteration came to.
 #[derive(Clone, Copy, PartialEq, Eq, Debug)]
@@ -21,16 +23,6 @@ pub enum Iteration {
     /// The first access that lies outside, by the address of its first byte. Nothing changed.
     Outside(Access, u32),
 }
-
-// The general registers that string instructions use (Intel 80386 manual, section 3.6): the count, and where the source and
-// the target stand.
-const EAX: u8 = 0;
-
-const ECX: usize = 1;
-
-const ESI: usize = 6;
-
-const EDI: usize = 7;
 
 // The loads, in order.
 fn loads(op: Op, width: Width, regs: &Registers) -> Touches
@@ -59,13 +51,6 @@ fn loads(op: Op, width: Width, regs: &Registers) -> Touches
     touches
 }
 
-// The word at a place, or 0.
-fn word(words: &[u32], place: usize) -> u32
-    ensures { result ≡ slice_index words.now place }
-{
-    if place < words.len() { words[place] } else { 0 }
-}
-
 // The store to [EDI].
 fn stores(op: Op, width: Width, regs: &Registers, words: &[u32]) -> Stores
     ensures { stores_of result ≡ string_writes op width regs.now words.now }
@@ -79,7 +64,7 @@ fn stores(op: Op, width: Width, regs: &Registers, words: &[u32]) -> Stores
         Op::Stos => Stores::One(Write {
             at: regs.general[EDI],
             width,
-            value: part(width, EAX, &regs.general),
+            value: part(width, ACCUMULATOR, &regs.general),
         }),
         _ => Stores::Nothing,
     }
@@ -102,7 +87,7 @@ fn flags(op: Op, width: Width, regs: &Registers, words: &[u32]) -> Eflags
         Op::Cmps => compare(width, word(words, 0), word(words, 1), regs.eflags),
         Op::Scas => compare(
             width,
-            part(width, EAX, &regs.general),
+            part(width, ACCUMULATOR, &regs.general),
             word(words, 0),
             regs.eflags,
         ),
@@ -159,7 +144,7 @@ fn load(op: Op, width: Width, words: &[u32], general: &mut [u32; 8])
     ensures { general.new ≡ with_loaded op width words.now general.old }
 {
     if let Op::Lods = op {
-        set_part(width, EAX, word(words, 0), general);
+        set_part(width, ACCUMULATOR, word(words, 0), general);
     }
 }
 

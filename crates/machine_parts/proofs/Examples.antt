@@ -1,11 +1,12 @@
 -- What these names give, by computation.
 use Rattle.std.proofs.Common.{◌≡◌, ℕ, true, false, refl, List, [], ◌∷◌, Some, None}
 use Rattle.memory_model.specs.Side.{Side}
+use Rattle.cpu_state.specs.Registers.{eax, esp}
 use Rattle.cpu_state.specs.declared.registers.Registers.{Registers}
 use Rattle.device_script.specs.declared.event.Event.{Event}
 use Rattle.device_script.specs.declared.event.Event.TheVariants.{Line, Com1, Com2}
 use Rattle.port_map.specs.Serial.{Serial}
-use Rattle.machine_parts.specs.Processor.{eax, ecx, edx, ebx, esp, esi, with_eax, at_eip, starting}
+use Rattle.machine_parts.specs.Processor.{at_eip, starting}
 use Rattle.machine_parts.specs.Ranges.{first_outside}
 use Rattle.machine_parts.specs.Script.{lines_of, com1_bytes, com2_bytes}
 use Rattle.machine_parts.specs.SerialLine.{new_serial, byte_sent, all_received, received}
@@ -30,19 +31,7 @@ its_flag : begins.eflags.interrupt ≡ true
 unfolding begins starting
 its_flag = refl
 
--- EAX, ECX, EDX, EBX, ESP, EBP, ESI and EDI are 10 to 17
-numbered : Registers
-numbered = record begins { general = 10 ∷ 11 ∷ 12 ∷ 13 ∷ 14 ∷ 15 ∷ 16 ∷ 17 ∷ [] }
-
-names : eax numbered ∷ ecx numbered ∷ edx numbered ∷ ebx numbered ∷ esp numbered ∷ esi numbered ∷ [] ≡ 10 ∷ 11 ∷ 12 ∷ 13 ∷ 14 ∷ 16 ∷ []
-unfolding numbered
-names = refl
-
-result_is_in_eax : (with_eax 5 numbered).general ≡ 5 ∷ 11 ∷ 12 ∷ 13 ∷ 14 ∷ 15 ∷ 16 ∷ 17 ∷ []
-unfolding numbered
-result_is_in_eax = refl
-
-goes_on_at : (at_eip 0x11005 numbered).eip ≡ 0x11005
+goes_on_at : (at_eip 0x11005 begins).eip ≡ 0x11005
 goes_on_at = refl
 
 -- a side of addresses 100 to 103

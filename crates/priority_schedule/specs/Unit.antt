@@ -1,6 +1,7 @@
 -- The unit of what is on: one instruction of a real-time activity with its gate, return or fault, or the guest's call on FIFOs.
 use Rattle.std.specs.Prelude.{ℕ, suc, zero, Bool, true, false, ◌&&◌, List, [], ◌∷◌, if◌then◌else◌, Option, Some, None, ℤ, pos, negsuc}
 use Rattle.std.specs.Int.{cast_unsigned, w32}
+use Rattle.cpu_state.specs.Registers.{eax, ebx, ecx, edx, esi, with_eax}
 use Rattle.memory_model.specs.Side.{Side}
 use Rattle.cpu_state.specs.declared.registers.Registers.{Registers}
 use Rattle.line_sets.specs.LineSet.{with_line}
@@ -18,7 +19,7 @@ use Rattle.line_kinds.specs.declared.kinds.RLine.{RLine}
 use Rattle.line_kinds.specs.declared.kinds.RLine.TheVariants.{Gate, Say, Ret, Fault, Reply}
 use Rattle.line_kinds.specs.declared.kinds.Who.{Who}
 use Rattle.line_kinds.specs.declared.kinds.Who.TheVariants.{Guest, Thread as ThreadOn, Init, Irq, Fifo as FifoOn}
-use Rattle.machine_parts.specs.Processor.{reached, eax, ebx, ecx, edx, esi, with_eax, at_eip}
+use Rattle.machine_parts.specs.Processor.{reached, at_eip}
 use Rattle.run_lines.specs.Calls.{Call, PutCall, GetCall}
 use Rattle.run_lines.specs.Gates.{gate_of}
 use Rattle.priority_schedule.specs.Due.{Thread}

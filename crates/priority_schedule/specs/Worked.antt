@@ -1,10 +1,11 @@
 -- Small states, and what the rules of docs/SCHEDULE.md give for each: the values are the rules', and the definitions compute to them.
 use Rattle.std.specs.Prelude.{◌≡◌, ℕ, true, false, List, [], ◌∷◌, map, replicate, slice_set, Option, Some, None, option_map, ℤ, pos, negsuc}
+use Rattle.cpu_state.specs.Registers.{eax, esp}
 use Rattle.memory_model.specs.Side.{word_at}
 use Rattle.line_kinds.specs.declared.kinds.RLine.TheVariants.{Release}
 use Rattle.line_kinds.specs.declared.kinds.Who.{Who}
 use Rattle.line_kinds.specs.declared.kinds.Who.TheVariants.{Guest, Thread as ThreadOn, Init, Irq, Fifo as FifoOn}
-use Rattle.machine_parts.specs.Processor.{starting, eax, esp}
+use Rattle.machine_parts.specs.Processor.{starting}
 use Rattle.run_lines.specs.Gates.{gate_of}
 use Rattle.priority_schedule.specs.Due.{Thread, ThreadState, Ready, Waiting, Suspended}
 use Rattle.priority_schedule.specs.Fifos.{Fifo, fifo_at}

@@ -4,7 +4,7 @@ ghost use Rattle.soft_entry.specs.Entry.{flags_word};
 ghost use Rattle.side_digest.specs.Digest.{digest};
 ghost use Rattle.rt_core.specs.End.{quiet_end};
 
-use cpu_state::{Eflags, Registers};
+use cpu_state::Registers;
 use side_digest::side_digest;
 use trace_lines::{GLine, Mode, RLine};
 
@@ -29,14 +29,8 @@ fn end_words(eip: u32, word: u32, general: &[u32; 8]) -> [u32; 10]
 pub fn guest_end(registers: &Registers, flag: bool, mode: Mode) -> GLine
     ensures { result ≡ GLine.End mode (registers.now.eip ∷ flags_word flag registers.now.eflags ∷ registers.now.general) }
 {
-    let eflags = Eflags {
-        interrupt: flag,
-        ..registers.eflags
-    };
-    GLine::End(
-        mode,
-        end_words(registers.eip, eflags.word(), &registers.general),
-    )
+    let eflags = registers.eflags.with_interrupt(flag).word();
+    GLine::End(mode, end_words(registers.eip, eflags, &registers.general))
 }
 
 /// The end lines of a side: its own first one, and its digest.

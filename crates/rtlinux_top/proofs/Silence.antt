@@ -1,6 +1,7 @@
 -- A guest to which no services are given makes no calls.
 use Rattle.std.proofs.Common.{◌≡◌, ℕ, zero, suc, ◌+◌, ◌==◌, Bool, true, false, ◌&&◌, refl, sym, ap, ◌∙◌, List, [], ◌∷◌, ◌++◌, if◌then◌else◌, Option, Some, None}
 use Rattle.std.specs.List.{filter_map, cons_option}
+use Rattle.cpu_state.specs.Registers.{eax}
 use Rattle.i386_execute.specs.Unit.{Effect, address_behind}
 use Rattle.device_script.specs.declared.event.Event.{Event}
 use Rattle.breach_monitor.specs.GuestUnit.{answer_to}
@@ -19,7 +20,7 @@ use Rattle.line_kinds.specs.declared.kinds.RLine.{RLine}
 use Rattle.line_sets.specs.LineSet.{without_line}
 use Rattle.port_map.specs.Serial.{Serial}
 use Rattle.port_map.specs.declared.owner.Owner.TheVariants.{Guest}
-use Rattle.machine_parts.specs.Processor.{unit_at, eax}
+use Rattle.machine_parts.specs.Processor.{unit_at}
 use Rattle.machine_parts.specs.SerialLine.{byte_sent}
 use Rattle.run_lines.specs.Calls.{Call, call_in, with_call, calls_of}
 use Rattle.run_lines.specs.Says.{Sight, sight}

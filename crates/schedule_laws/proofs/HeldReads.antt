@@ -5,6 +5,7 @@ use Rattle.std.proofs.lemmas.Bool.Decides.{nat_tests, eqb_tells}
 use Rattle.std.proofs.lemmas.List.{get_or-set_same, get_or-set_other}
 use Rattle.std.proofs.lemmas.List.Sums.{fold-append}
 use Rattle.std.specs.Int.{cast_unsigned, w32}
+use Rattle.cpu_state.specs.Registers.{with_eax}
 use Rattle.cpu_state.specs.declared.registers.Registers.{Registers}
 use Rattle.line_sets.specs.LineSet.{has, with_line, without_line}
 use Rattle.line_sets.proofs.LineSetLemmas.{has-zero, has-with_same, has-with_other, has-without_same, has-without_other}
@@ -17,7 +18,6 @@ use Rattle.line_kinds.specs.declared.kinds.RLine.TheVariants.{On, Release}
 use Rattle.line_kinds.specs.declared.kinds.Who.{Who}
 use Rattle.line_kinds.specs.declared.kinds.Who.TheVariants.{Guest, Thread as ThreadOn, Init, Irq, Fifo as FifoOn}
 use Rattle.side_digest.specs.Digest.{digest}
-use Rattle.machine_parts.specs.Processor.{with_eax}
 use Rattle.machine_parts.specs.Ranges.{first_outside}
 use Rattle.machine_parts.specs.SerialLine.{byte_sent}
 use Rattle.run_lines.specs.Calls.{Call, PutCall, GetCall, call_at}

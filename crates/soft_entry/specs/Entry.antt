@@ -1,7 +1,8 @@
 -- An entry of a vector: its descriptor, the frame that it pushes, and what it leaves (Intel 80386 manual, sections 9.5 and 9.6.1).
-use Rattle.std.specs.Prelude.{ℕ, ◌+◌, ◌-◌, ◌*◌, ◌/◌, ◌%◌, ◌^◌, ◌==◌, nat_le, Bool, false, not, ◌&&◌, ◌||◌, if◌then◌else◌, slice_index, slice_set, Option, Some, None}
+use Rattle.std.specs.Prelude.{ℕ, ◌+◌, ◌-◌, ◌*◌, ◌/◌, ◌%◌, ◌^◌, ◌==◌, nat_le, Bool, false, not, ◌&&◌, ◌||◌, if◌then◌else◌, Option, Some, None}
 use Rattle.memory_model.specs.Side.{Side, inside, word_at, stored_inside}
-use Rattle.cpu_state.specs.Eflags.{word_of}
+use Rattle.cpu_state.specs.Eflags.{word_of, with_interrupt}
+use Rattle.cpu_state.specs.Registers.{esp, with_esp}
 use Rattle.cpu_state.specs.declared.eflags.Eflags.{Eflags}
 use Rattle.cpu_state.specs.declared.registers.Registers.{Registers}
 use Rattle.soft_flags.specs.declared.flags.SoftFlags.{SoftFlags}
@@ -27,12 +28,9 @@ is_gate attribute = nat_le 128 attribute && (attribute / 16 % 2 == 0 && (clears_
 abbrev pub below : ℕ → ℕ → ℕ
 below top n = (top + (2 ^ 32 - n)) % 2 ^ 32
 
-abbrev pub top_of : Registers → ℕ
-top_of r = slice_index r.general 4
-
 -- the EFLAGS that is pushed: bit 9 is the flag
 abbrev pub flags_word : Bool → Eflags → ℕ
-flags_word flag eflags = word_of (record eflags { interrupt = flag })
+flags_word flag eflags = word_of (with_interrupt flag eflags)
 
 -- the first of some doublewords that lies outside
 abbrev pub or_else : Option ℕ → Option ℕ → Option ℕ
@@ -65,14 +63,14 @@ abbrev pub entered : ℕ → ℕ → ℕ → Registers → SoftFlags → Side �
 entered low high push r f side (Some at) = unentered (Outside at) r f side
 entered low high push r f side None = record {
   entry = Entered;
-  registers = record r { general = slice_set r.general 4 (below (top_of r) 12); eip = offset_of low high };
+  registers = record (with_esp (below (esp r) 12) r) { eip = offset_of low high };
   flags = record f { flag = f.flag && not (clears_flag (attribute_of high)); shadow = false };
-  side = frame_stored side (top_of r) (flags_word f.flag r.eflags) push;
+  side = frame_stored side (esp r) (flags_word f.flag r.eflags) push;
 }
 
 abbrev pub through : ℕ → ℕ → ℕ → Registers → SoftFlags → Side → Entering
 through low high push r f side =
-    if is_gate (attribute_of high) then entered low high push r f side (outside_push side (top_of r)) else unentered Shutdown r f side
+    if is_gate (attribute_of high) then entered low high push r f side (outside_push side (esp r)) else unentered Shutdown r f side
 
 -- the entry of a vector that pushes an EIP
 unfoldable pub entering : ℕ → ℕ → Registers → SoftFlags → Side → Entering

@@ -1,11 +1,12 @@
 // An entry.
 ghost use Rattle.std.specs.Prelude.{◌≡◌, ◌≢◌, ◌<◌, ◌^◌, true, length};
 ghost use Rattle.memory_model.specs.Side.{word_at, inside};
+ghost use Rattle.cpu_state.specs.Registers.{esp};
 ghost use Rattle.flat_memory.specs.Side.{side_of};
 ghost use Rattle.soft_flags.specs.SoftFlags.{HasTableIn};
-ghost use Rattle.soft_entry.specs.Entry.{entering, entered, is_gate, outside_push, doubleword_outside, frame_stored, flags_word, below, top_of};
+ghost use Rattle.soft_entry.specs.Entry.{entering, entered, is_gate, outside_push, doubleword_outside, frame_stored, below};
 
-use cpu_state::{Eflags, Registers};
+use cpu_state::{ESP, Registers};
 use flat_memory::Side;
 use soft_flags::SoftFlags;
 
@@ -16,9 +17,6 @@ const SECOND_DOUBLEWORD: u32 = 4;
 
 /// The code segment that an entry pushes.
 const CODE_SEGMENT: u32 = 8;
-
-/// ESP among the general registers.
-const ESP: usize = 4;
 
 /// The bits of a descriptor's attribute byte: present, no system segment, and the type.
 const PRESENT: u32 = 0x80;
@@ -102,17 +100,6 @@ fn push_frame(side: &mut Side<'_>, top: u32, eflags: u32, eip: u32)
     let _ = side.store32(below_top(top, 12), eip);
 }
 
-// The word of EFLAGS with bit 9 equal to the flag.
-fn pushed_eflags(flag: bool, eflags: Eflags) -> u32
-    ensures { result ≡ flags_word flag eflags }
-{
-    Eflags {
-        interrupt: flag,
-        ..eflags
-    }
-    .word()
-}
-
 // Enters through a gate, whose doublewords are `low` and `high`.
 fn enter_gate(
     low: u32,
@@ -123,7 +110,7 @@ fn enter_gate(
     side: &mut Side<'_>,
 ) -> Entry
     ensures entering { record { entry = result; registers = regs.new; flags = flags.new; side = side_of side.new }
-        ≡ entered low high push regs.old flags.old (side_of side.old) (outside_push (side_of side.old) (top_of regs.old)) }
+        ≡ entered low high push regs.old flags.old (side_of side.old) (outside_push (side_of side.old) (esp regs.old)) }
     ensures unchanged { result ≢ Entry.Entered → (regs.new ≡ regs.old) × (flags.new ≡ flags.old) × (side_of side.new ≡ side_of side.old) }
     ensures same_table { (flags.new.idt ≡ flags.old.idt) × (flags.new.entries ≡ flags.old.entries) }
     ensures first { side.new.first ≡ side.old.first }
@@ -133,7 +120,8 @@ fn enter_gate(
     if let Some(at) = first_outside_push(side, top) {
         return Entry::Outside(at);
     }
-    push_frame(side, top, pushed_eflags(flags.flag, regs.eflags), push);
+    let eflags = regs.eflags.with_interrupt(flags.flag).word();
+    push_frame(side, top, eflags, push);
     regs.general[ESP] = below_top(top, 12);
     regs.eip = low % 0x1_0000 + high / 0x1_0000 * 0x1_0000;
     flags.flag = flags.flag && high / 0x100 % 0x10 != INTERRUPT_GATE;

@@ -1,13 +1,14 @@
 -- The guest's gates, INT F0h to F6h: each of the first six does to the software flag what its instruction does to the
 -- processor's (Intel 80386 manual, chapter 17: CLI, STI, IRET, PUSHF, POPF and HLT), and the last is a call of the executive.
-use Rattle.std.specs.Prelude.{ℕ, ◌+◌, ◌%◌, ◌^◌, ◌==◌, Bool, true, false, not, length, if◌then◌else◌, slice_index, slice_set, Option, Some, None, ℤ, pos, negsuc}
+use Rattle.std.specs.Prelude.{ℕ, ◌+◌, ◌%◌, ◌^◌, ◌==◌, Bool, true, false, not, length, if◌then◌else◌, Option, Some, None, ℤ, pos, negsuc}
 use Rattle.std.specs.Int.{cast_unsigned, w32}
 use Rattle.memory_model.specs.Side.{Side, inside, loaded, word_stored}
-use Rattle.cpu_state.specs.Eflags.{bit, flags_of}
+use Rattle.cpu_state.specs.Eflags.{bit, flags_of, with_interrupt}
+use Rattle.cpu_state.specs.Registers.{eax, ebx, ecx, esp, with_eax, with_esp}
 use Rattle.cpu_state.specs.declared.eflags.Eflags.{Eflags}
 use Rattle.cpu_state.specs.declared.registers.Access.TheVariants.{Load, Store}
 use Rattle.cpu_state.specs.declared.registers.Registers.{Registers}
-use Rattle.soft_entry.specs.Entry.{below, top_of, flags_word}
+use Rattle.soft_entry.specs.Entry.{below, flags_word}
 use Rattle.soft_flags.specs.SoftFlags.{table_answer, with_table}
 use Rattle.soft_flags.specs.declared.flags.SoftFlags.{SoftFlags}
 use Rattle.soft_gates.specs.declared.gates.GateUnit.{GateUnit}
@@ -45,14 +46,11 @@ onward next r = record r { eip = next }
 
 -- n bytes above the top of the stack
 abbrev pub above : Registers → ℕ → ℕ
-above r n = (top_of r + n) % 2 ^ 32
-
-abbrev pub with_top : ℕ → Registers → Registers
-with_top top r = record r { general = slice_set r.general 4 top }
+above r n = (esp r + n) % 2 ^ 32
 
 -- EFLAGS of a popped word, of which bit 9 goes to the software flag
 abbrev pub popped_flags : ℕ → Eflags
-popped_flags word = record (flags_of word) { interrupt = false }
+popped_flags word = with_interrupt false (flags_of word)
 
 -- F0 and F1. The shadow stands where the flag was clear
 abbrev pub cli : ℕ → Registers → SoftFlags → Side → Gated
@@ -63,28 +61,28 @@ sti next r f side = finished (onward next r) (record f { flag = true; shadow = n
 
 -- F2: EIP, a doubleword that is ignored, and EFLAGS are popped
 abbrev pub iret_by : Option ℕ → Option ℕ → Option ℕ → Registers → SoftFlags → Side → Gated
-iret_by None segment word r f side = unchanged (Outside Load (top_of r)) r f side
+iret_by None segment word r f side = unchanged (Outside Load (esp r)) r f side
 iret_by (Some eip) None word r f side = unchanged (Outside Load (above r 4)) r f side
 iret_by (Some eip) (Some segment) None r f side = unchanged (Outside Load (above r 8)) r f side
 iret_by (Some eip) (Some segment) (Some word) r f side =
-    finished (record (with_top (above r 12) r) { eip = eip; eflags = popped_flags word }) (with_flag (bit word 9) f) side
+    finished (record (with_esp (above r 12) r) { eip = eip; eflags = popped_flags word }) (with_flag (bit word 9) f) side
 
 abbrev pub iret : Registers → SoftFlags → Side → Gated
-iret r f side = iret_by (loaded side (top_of r) 4) (loaded side (above r 4) 4) (loaded side (above r 8) 4) r f side
+iret r f side = iret_by (loaded side (esp r) 4) (loaded side (above r 4) 4) (loaded side (above r 8) 4) r f side
 
 -- F3 and F4: EFLAGS is pushed with bit 9 equal to the flag, and popped
 abbrev pub pushf : ℕ → Registers → SoftFlags → Side → Gated
-pushf next r f side = let at = below (top_of r) 4 in
-    if inside side at 4 then finished (onward next (with_top at r)) (unshadowed f) (word_stored side at 4 (flags_word f.flag r.eflags))
+pushf next r f side = let at = below (esp r) 4 in
+    if inside side at 4 then finished (onward next (with_esp at r)) (unshadowed f) (word_stored side at 4 (flags_word f.flag r.eflags))
     else unchanged (Outside Store at) r f side
 
 abbrev pub popf_by : Option ℕ → ℕ → Registers → SoftFlags → Side → Gated
-popf_by None next r f side = unchanged (Outside Load (top_of r)) r f side
+popf_by None next r f side = unchanged (Outside Load (esp r)) r f side
 popf_by (Some word) next r f side =
-    finished (record (with_top (above r 4) r) { eip = next; eflags = popped_flags word }) (with_flag (bit word 9) f) side
+    finished (record (with_esp (above r 4) r) { eip = next; eflags = popped_flags word }) (with_flag (bit word 9) f) side
 
 abbrev pub popf : ℕ → Registers → SoftFlags → Side → Gated
-popf next r f side = popf_by (loaded side (top_of r) 4) next r f side
+popf next r f side = popf_by (loaded side (esp r) 4) next r f side
 
 -- F5
 abbrev pub hlt : ℕ → Registers → SoftFlags → Side → Gated
@@ -97,18 +95,11 @@ pub record Served : Type 0 where
 
 abbrev pub answered : ℤ → ℕ → Registers → SoftFlags → Served
 answered result next r f = record {
-  registers = record r { general = slice_set r.general 0 (cast_unsigned w32 result); eip = next };
+  registers = onward next (with_eax (cast_unsigned w32 result) r);
   flags = unshadowed f;
 }
 
--- the arguments EBX and ECX
-abbrev pub ebx : Registers → ℕ
-ebx r = slice_index r.general 3
-
-abbrev pub ecx : Registers → ℕ
-ecx r = slice_index r.general 1
-
--- 1: the descriptor table of ECX entries at EBX, on a side of a size
+-- the arguments are EBX and ECX. 1: the descriptor table of ECX entries at EBX, on a side of a size
 abbrev pub load_idt : ℕ → ℕ → Registers → SoftFlags → Served
 load_idt size next r f = answered (table_answer (ebx r) (ecx r) size) next r (with_table (ebx r) (ecx r) size f)
 
@@ -125,7 +116,7 @@ service_by function size next now r f =
     else answered (negsuc 21) next r f
 
 unfoldable pub service : ℕ → ℕ → ℕ → Registers → SoftFlags → Served
-service size next now r f = service_by (slice_index r.general 0) size next now r f
+service size next now r f = service_by (eax r) size next now r f
 
 abbrev pub served : Served → Side → Gated
 served s side = finished s.registers s.flags side

@@ -2,12 +2,11 @@
 ghost use Rattle.std.specs.Prelude.{◌≡◌, ◌≤◌, ◌<◌, ◌^◌, length};
 ghost use Rattle.cpu_state.specs.Eflags.{bit};
 ghost use Rattle.flat_memory.specs.Side.{side_of};
-ghost use Rattle.soft_entry.specs.Entry.{flags_word};
 ghost use Rattle.soft_flags.specs.SoftFlags.{HasTableIn};
 ghost use Rattle.soft_gates.specs.Gate.{gated, iret, pushf, popf, popped_flags, WhenOutside};
 
 use crate::service::service;
-use cpu_state::{Access, Eflags, Registers};
+use cpu_state::{Access, ESP, Eflags, Registers};
 use flat_memory::Side;
 use soft_flags::SoftFlags;
 
@@ -24,9 +23,6 @@ const POPF: u8 = 0xf4;
 
 const HLT: u8 = 0xf5;
 
-/// ESP among the general registers.
-const ESP: usize = 4;
-
 /// What a gate comes to.
 #[derive(Clone, Copy, Debug, PartialEq, Eq)]
 pub enum GateUnit {
@@ -42,26 +38,13 @@ pub enum GateUnit {
 fn eflags_of(word: u32) -> Eflags
     ensures { result ≡ popped_flags word }
 {
-    Eflags {
-        interrupt: false,
-        ..Eflags::from_word(word)
-    }
+    Eflags::from_word(word).with_interrupt(false)
 }
 
 fn interrupt_flag(word: u32) -> bool
     ensures { result ≡ bit word 9 }
 {
-    word / 0x200 % 2 == 1
-}
-
-fn pushed_eflags(flag: bool, eflags: Eflags) -> u32
-    ensures { result ≡ flags_word flag eflags }
-{
-    Eflags {
-        interrupt: flag,
-        ..eflags
-    }
-    .word()
+    Eflags::from_word(word).interrupt
 }
 
 fn perform_iret(regs: &mut Registers, flags: &mut SoftFlags, side: &Side<'_>) -> GateUnit
@@ -103,7 +86,7 @@ fn perform_pushf(
     ensures same_table { (flags.new.idt ≡ flags.old.idt) × (flags.new.entries ≡ flags.old.entries) }
 {
     let at = regs.general[ESP].wrapping_sub(4);
-    let word = pushed_eflags(flags.flag, regs.eflags);
+    let word = regs.eflags.with_interrupt(flags.flag).word();
     if !side.store32(at, word) {
         return GateUnit::Outside(Access::Store, at);
     }

@@ -4,7 +4,7 @@ ghost use Rattle.std.specs.Int.{cast_unsigned, w32};
 ghost use Rattle.soft_flags.specs.SoftFlags.{HasTableIn};
 ghost use Rattle.soft_gates.specs.Gate.{service as service_of};
 
-use cpu_state::Registers;
+use cpu_state::{EAX, EBX, ECX, Registers};
 use soft_flags::SoftFlags;
 
 /// The functions, by EAX.
@@ -16,13 +16,6 @@ const TIME: u32 = 6;
 
 /// The refusal of a function that there is not, as Linux numbers it.
 const EINVAL: i32 = 22;
-
-/// EAX, ECX and EBX among the general registers.
-const EAX: usize = 0;
-
-const ECX: usize = 1;
-
-const EBX: usize = 3;
 
 // A result as EAX has it.
 fn as_register(outcome: i32) -> u32
