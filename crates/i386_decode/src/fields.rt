@@ -26,28 +26,39 @@ pub fn skip(bytes: &[u8], count: usize) -> &[u8]
     }
 }
 
+/// The byte at an index as a number, or 0 where there is none.
+fn number_of(bytes: &[u8], at: usize) -> u32
+    ensures value { result ≡ slice_index_or bytes.now at 0 }
+    ensures small { result < 256 }
+{
+    u32::from(byte_or(bytes, at, 0))
+}
+
 /// The number of so many bytes, lowest first, with zeros for those that are missing.
 pub fn number_at(bytes: &[u8], count: usize) -> u32
     requires { count ≤ 4 }
     ensures value { result ≡ number count bytes.now }
     ensures one { count ≤ 1 → result < 256 }
 {
-    let a = byte_or(bytes, 0, 0) as u32;
-    let b = byte_or(bytes, 1, 0) as u32;
-    let c = byte_or(bytes, 2, 0) as u32;
-    let d = byte_or(bytes, 3, 0) as u32;
     match count {
         0 => 0,
-        1 => a,
-        2 => a + 256 * b,
-        3 => a + 256 * (b + 256 * c),
-        _ => a + 256 * (b + 256 * (c + 256 * d)),
+        1 => number_of(bytes, 0),
+        2 => number_of(bytes, 0) + 256 * number_of(bytes, 1),
+        3 => number_of(bytes, 0) + 256 * (number_of(bytes, 1) + 256 * number_of(bytes, 2)),
+        _ => number_of(bytes, 0)
+            + 256 * (number_of(bytes, 1) + 256 * (number_of(bytes, 2) + 256 * number_of(bytes, 3))),
     }
 }
 
 // The fields of a ModRM byte and of a SIB byte (Intel 80386 manual, section 17.2.1, tables 17-3 and 17-4).
 
-/// With this mod field the r/m field is a register.
+/// The mod fields: memory without a displacement, with one of a byte or a doubleword, and a register.
+const NO_DISPLACEMENT: u8 = 0;
+
+const BYTE_DISPLACEMENT: u8 = 1;
+
+const FULL_DISPLACEMENT: u8 = 2;
+
 const REGISTER_MODE: u8 = 3;
 
 /// With this r/m field, and memory, a SIB byte follows.
@@ -143,15 +154,15 @@ pub fn displacement_count(modrm: u8, sib: u8) -> usize
     ensures bound { result ≤ 4 }
 {
     match mode_of(modrm) {
-        0 => if rm_of(modrm) == NO_BASE
+        NO_DISPLACEMENT => if rm_of(modrm) == NO_BASE
             || rm_of(modrm) == SIB_FOLLOWS && base_field(sib) == NO_BASE
         {
             4
         } else {
             0
         },
-        1 => 1,
-        2 => 4,
+        BYTE_DISPLACEMENT => 1,
+        FULL_DISPLACEMENT => 4,
         _ => 0,
     }
 }
@@ -184,13 +195,13 @@ fn base(modrm: u8, sib: u8) -> Option<u8>
 {
     let rm = rm_of(modrm);
     if rm == SIB_FOLLOWS {
-        if base_field(sib) == NO_BASE && mode_of(modrm) == 0 {
+        if base_field(sib) == NO_BASE && mode_of(modrm) == NO_DISPLACEMENT {
             None
         } else {
             Some(base_field(sib))
         }
     } else {
-        if rm == NO_BASE && mode_of(modrm) == 0 {
+        if rm == NO_BASE && mode_of(modrm) == NO_DISPLACEMENT {
             None
         } else {
             Some(rm)
@@ -228,7 +239,7 @@ fn address(modrm: u8, sib: u8, displacement: u32) -> Address
     Address {
         base: base(modrm, sib),
         index: index(modrm, sib),
-        displacement: if mode_of(modrm) == 1 {
+        displacement: if mode_of(modrm) == BYTE_DISPLACEMENT {
             sign_extend(displacement)
         } else {
             displacement

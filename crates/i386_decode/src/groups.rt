@@ -126,28 +126,28 @@ static BIT_TEST: [Option<Row>; 8] = [
 ];
 
 /// The row of a group that the reg field picks.
-pub fn group_entry(group: Group, reg: u8) -> Option<Row>
+pub fn group_entry(group: Group, reg: u8) -> &'static Option<Row>
     requires { reg < 8 }
-    ensures { result ≡ group_row group reg }
+    ensures { result.now ≡ group_row group reg }
 {
     let at = reg as usize;
     match group {
-        Group::ImmediateByte => IMMEDIATE_BYTE[at],
-        Group::ImmediateFull => IMMEDIATE_FULL[at],
-        Group::ImmediateSigned => IMMEDIATE_SIGNED[at],
-        Group::Pop => POP[at],
-        Group::ShiftByteImmediate => SHIFT_BYTE_IMMEDIATE[at],
-        Group::ShiftFullImmediate => SHIFT_FULL_IMMEDIATE[at],
-        Group::ShiftByteOne => SHIFT_BYTE_ONE[at],
-        Group::ShiftFullOne => SHIFT_FULL_ONE[at],
-        Group::ShiftByteCl => SHIFT_BYTE_CL[at],
-        Group::ShiftFullCl => SHIFT_FULL_CL[at],
-        Group::MovByte => MOV_BYTE[at],
-        Group::MovFull => MOV_FULL[at],
-        Group::UnaryByte => UNARY_BYTE[at],
-        Group::UnaryFull => UNARY_FULL[at],
-        Group::IncDecByte => INC_DEC_BYTE[at],
-        Group::Indirect => INDIRECT[at],
-        Group::BitTest => BIT_TEST[at],
+        Group::ImmediateByte => &IMMEDIATE_BYTE[at],
+        Group::ImmediateFull => &IMMEDIATE_FULL[at],
+        Group::ImmediateSigned => &IMMEDIATE_SIGNED[at],
+        Group::Pop => &POP[at],
+        Group::ShiftByteImmediate => &SHIFT_BYTE_IMMEDIATE[at],
+        Group::ShiftFullImmediate => &SHIFT_FULL_IMMEDIATE[at],
+        Group::ShiftByteOne => &SHIFT_BYTE_ONE[at],
+        Group::ShiftFullOne => &SHIFT_FULL_ONE[at],
+        Group::ShiftByteCl => &SHIFT_BYTE_CL[at],
+        Group::ShiftFullCl => &SHIFT_FULL_CL[at],
+        Group::MovByte => &MOV_BYTE[at],
+        Group::MovFull => &MOV_FULL[at],
+        Group::UnaryByte => &UNARY_BYTE[at],
+        Group::UnaryFull => &UNARY_FULL[at],
+        Group::IncDecByte => &INC_DEC_BYTE[at],
+        Group::Indirect => &INDIRECT[at],
+        Group::BitTest => &BIT_TEST[at],
     }
 }

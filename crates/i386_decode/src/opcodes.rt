@@ -559,15 +559,15 @@ static TWO_BYTE: [Entry; 256] = [
 ];
 
 /// What stands at an opcode of one byte.
-pub fn one_byte_entry(opcode: u8) -> Entry
-    ensures { result ≡ one_byte opcode }
+pub fn one_byte_entry(opcode: u8) -> &'static Entry
+    ensures { result.now ≡ one_byte opcode }
 {
-    ONE_BYTE[opcode as usize]
+    &ONE_BYTE[opcode as usize]
 }
 
 /// What stands at an opcode of two bytes, 0F and this one.
-pub fn two_byte_entry(opcode: u8) -> Entry
-    ensures { result ≡ two_byte opcode }
+pub fn two_byte_entry(opcode: u8) -> &'static Entry
+    ensures { result.now ≡ two_byte opcode }
 {
-    TWO_BYTE[opcode as usize]
+    &TWO_BYTE[opcode as usize]
 }

@@ -1,9 +1,9 @@
 // Reading an instruction.
-ghost use Rattle.std.specs.Prelude.{◌≡◌, ◌<◌, ◌≤◌, ◌^◌, ◌+◌, length, take, ℕ, ◌↔◌, ◌||◌, ◌==◌};
+ghost use Rattle.std.specs.Prelude.{◌≡◌, ◌<◌, ◌≤◌, ◌^◌, ◌+◌, length, take, ℕ, ◌↔◌, ◌||◌, ◌==◌, Some};
 ghost use Rattle.i386_decode.specs.declared.form.Form.{Form};
 ghost use Rattle.i386_decode.specs.Fields.{is_prefix, is_narrow, repeat_of, repeat_by};
-ghost use Rattle.i386_decode.specs.Spelling.{entry_of, row_at, BeginsWith, BeginsSpelling, SpellsNothing};
-ghost use Rattle.i386_decode.specs.Reading.{front, opcode_at, least_modrm, modrm_or, fields_at, entry_read, decode_of};
+ghost use Rattle.i386_decode.specs.Spelling.{entry_of, BeginsWith, BeginsSpelling, SpellsNothing};
+ghost use Rattle.i386_decode.specs.Reading.{front, opcode_at, least_modrm, modrm_or, fields_at, row_read, entry_read, decode_of};
 ghost use Rattle.i386_decode.specs.WellFormed.{IsWellFormed, WhenForm};
 
 use crate::fields::{
@@ -115,8 +115,8 @@ fn read_prefixes(bytes: &[u8]) -> (usize, bool, Repeat)
 
 /// The entry of the opcode, and how many bytes the opcode has.
 #[tactic(auto, unfolding(crate::specs::Spelling::entry_of))]
-fn read_opcode(bytes: &[u8]) -> (Entry, usize)
-    ensures entry { result.0 ≡ entry_of (opcode_at bytes.now) }
+fn read_opcode(bytes: &[u8]) -> (&'static Entry, usize)
+    ensures entry { result.0.now ≡ entry_of (opcode_at bytes.now) }
     ensures size { result.1 ≡ length (opcode_at bytes.now) }
 {
     let opcode = byte_or(bytes, 0, LEAST_OPCODE);
@@ -151,18 +151,6 @@ fn modrm_byte(least: Option<u8>, bytes: &[u8]) -> u8
     match least {
         None => NO_MODRM,
         Some(least) => byte_or(bytes, 0, least),
-    }
-}
-
-/// The row that the reg field picks at an entry.
-fn row_of(entry: &Entry, reg: u8) -> Option<Row>
-    requires { reg < 8 }
-    ensures { result ≡ row_at entry.now reg }
-{
-    match entry {
-        Entry::Invalid => None,
-        Entry::One(row) => Some(*row),
-        Entry::Many(group) => group_entry(*group, reg),
     }
 }
 
@@ -205,6 +193,34 @@ fn read_fields(
     }
 }
 
+/// What follows the opcode of a row, behind `used` bytes of `len`.
+fn read_row(
+    row: &Row,
+    narrow: bool,
+    repeat: Repeat,
+    used: usize,
+    len: usize,
+    modrm: u8,
+    bytes: &[u8],
+) -> Decoded
+    requires { used < 2 ^ 63 + 2 }
+    ensures { result ≡ row_read (Some row.now) narrow repeat used len modrm bytes.now }
+{
+    if row.barred && narrow || wants_memory(row.modrm) && is_register(modrm) {
+        return Decoded::Undefined;
+    }
+    let size = modrm_count(row.modrm);
+    read_fields(
+        row,
+        narrow,
+        repeat,
+        used + size,
+        len,
+        modrm,
+        skip(bytes, size),
+    )
+}
+
 /// What follows the opcode, behind `used` bytes of `len`.
 #[tactic(auto, unfolding(crate::specs::Reading::entry_read))]
 fn read_entry(
@@ -219,22 +235,14 @@ fn read_entry(
     ensures { result ≡ entry_read entry.now narrow repeat used len bytes.now }
 {
     let modrm = modrm_byte(least_modrm_byte(entry), bytes);
-    let Some(row) = row_of(entry, reg_of(modrm)) else {
-        return Decoded::Undefined;
-    };
-    if row.barred && narrow || wants_memory(row.modrm) && is_register(modrm) {
-        return Decoded::Undefined;
+    match entry {
+        Entry::Invalid => Decoded::Undefined,
+        Entry::One(row) => read_row(row, narrow, repeat, used, len, modrm, bytes),
+        Entry::Many(group) => match group_entry(*group, reg_of(modrm)) {
+            Some(row) => read_row(row, narrow, repeat, used, len, modrm, bytes),
+            None => Decoded::Undefined,
+        },
     }
-    let size = modrm_count(row.modrm);
-    read_fields(
-        &row,
-        narrow,
-        repeat,
-        used + size,
-        len,
-        modrm,
-        skip(bytes, size),
-    )
 }
 
 /// The bytes that can belong to the instruction at the front.
@@ -257,7 +265,7 @@ fn read(bytes: &[u8]) -> Decoded
     let rest = skip(bytes, count);
     let (entry, size) = read_opcode(rest);
     read_entry(
-        &entry,
+        entry,
         narrow,
         repeat,
         count + size,

@@ -1,3 +1,5 @@
+// The forms of the table are GNU objdump's, by tests/objdump_forms.py; what is short or spells nothing is by the opcode map of
+// the Intel 80386 manual (appendix A), its groups of opcodes left out, and its limit of 15 bytes (section 9.8.13).
 mod spellings;
 
 use crate::form::{Decoded, Form, Operand, Repeat};
