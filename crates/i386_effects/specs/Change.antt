@@ -1,8 +1,9 @@
 -- What an instruction changes, once its loads are made.
-use Rattle.std.specs.Prelude.{ℕ, List, [], ◌∷◌}
+use Rattle.std.specs.Prelude.{ℕ, ◌+◌, ◌-◌, ◌*◌, ◌%◌, ◌^◌, List, [], ◌∷◌, slice_index}
 use Rattle.cpu_state.specs.declared.registers.Privileged.{Privileged as PrivilegedUse}
 use Rattle.cpu_state.specs.declared.registers.Registers.{Registers}
 use Rattle.cpu_state.specs.declared.width.Width.{Width}
+use Rattle.cpu_state.specs.declared.width.Width.TheVariants.{W32}
 use Rattle.i386_effects.specs.declared.change.Ending.{Ending}
 use Rattle.i386_effects.specs.declared.change.Ending.TheVariants as ending
 use Rattle.i386_effects.specs.declared.lists.Stores.{Stores}
@@ -23,11 +24,20 @@ pub data Change : Type 0 where
   -- nothing: an instruction on the hard interrupt flag, or HLT, of so many bytes
   Privileged : (kind : PrivilegedUse) (n : ℕ) → Change
 
+-- the store of word i of those that are pushed at a top of the stack
+abbrev pub pushed_word : ℕ → List ℕ → ℕ → Write
+pushed_word top words i = record { at = (top + (2 ^ 32 - (4 * i + 4))) % 2 ^ 32; width = W32; value = slice_index words i }
+
+-- eight words that are pushed, the first one first
+abbrev pub eight_pushed : ℕ → List ℕ → List Write
+eight_pushed top ws =
+    pushed_word top ws 0 ∷ pushed_word top ws 1 ∷ pushed_word top ws 2 ∷ pushed_word top ws 3 ∷ pushed_word top ws 4 ∷ pushed_word top ws 5 ∷ pushed_word top ws 6 ∷ pushed_word top ws 7 ∷ []
+
 -- stores as a list
 abbrev pub stores_of : Stores → List Write
 stores_of Nothing = []
 stores_of (One x) = x ∷ []
-stores_of (Eight xs) = xs
+stores_of (Eight top words) = eight_pushed top words
 
 -- an ending with the registers before it
 abbrev pub whole : Ending → Registers → Change

@@ -2,7 +2,7 @@
 ghost use Rattle.std.specs.Prelude.{◌≡◌, ◌≢◌, ◌<◌, [], length};
 ghost use Rattle.memory_model.specs.Laws.{SamePlace};
 ghost use Rattle.i386_effects.specs.Accesses.{words_unless, all_loaded, first_outside_store, all_stored};
-ghost use Rattle.i386_effects.specs.Change.{stores_of, whole};
+ghost use Rattle.i386_effects.specs.Change.{pushed_word, eight_pushed, stores_of, whole};
 ghost use Rattle.i386_effects.specs.Effect.{changed, committed};
 
 use crate::lists::{Stores, Touch, Words, Write};
@@ -80,6 +80,54 @@ fn store_all<B: Bus>(writes: &[Write], bus: &mut B)
     }
 }
 
+// The store of one of eight words that are pushed.
+fn pushed_word(top: u32, words: &[u32; 8], i: usize) -> Write
+    requires { i < 8 }
+    ensures { result ≡ pushed_word top words.now i }
+{
+    Write {
+        at: top.wrapping_sub(4 * i as u32 + 4),
+        width: Width::W32,
+        value: words[i],
+    }
+}
+
+// The stores of eight words that are pushed.
+fn eight_pushed(top: u32, words: &[u32; 8]) -> [Write; 8]
+    ensures { result ≡ eight_pushed top words.now }
+{
+    [
+        pushed_word(top, words, 0),
+        pushed_word(top, words, 1),
+        pushed_word(top, words, 2),
+        pushed_word(top, words, 3),
+        pushed_word(top, words, 4),
+        pushed_word(top, words, 5),
+        pushed_word(top, words, 6),
+        pushed_word(top, words, 7),
+    ]
+}
+
+// Makes eight stores of words that are pushed and takes new registers, or none of it.
+fn commit_eight<B: Bus>(
+    after: &Registers,
+    top: u32,
+    words: &[u32; 8],
+    regs: &mut Registers,
+    bus: &mut B,
+) -> Option<u32>
+    ensures lenders { B.lenders bus.new ≡ B.lenders bus.old }
+    ensures effect { record { outside = result; registers = regs.new; bus = B.state bus.new } ≡ committed regs.old (B.state bus.old) after.now (eight_pushed top words.now) }
+{
+    let writes = eight_pushed(top, words);
+    if let Some(at) = outside_store(&writes, bus) {
+        return Some(at);
+    }
+    store_all(&writes, bus);
+    *regs = *after;
+    None
+}
+
 // Makes stores and takes new registers, or none of it: what it comes to alone.
 fn commit_exactly<B: Bus>(
     after: &Registers,
@@ -97,12 +145,7 @@ fn commit_exactly<B: Bus>(
                 return Some(write.at);
             }
         }
-        Stores::Eight(writes) => {
-            if let Some(at) = outside_store(writes, bus) {
-                return Some(at);
-            }
-            store_all(writes, bus);
-        }
+        Stores::Eight(top, words) => return commit_eight(after, *top, words, regs, bus),
     }
     *regs = *after;
     None

@@ -122,10 +122,11 @@ pub fn word(words: &[u32], place: usize) -> u32
     if place < words.len() { words[place] } else { 0 }
 }
 
-/// Stores in order: none, one, or the eight of PUSHA.
+/// Stores in order.
 #[derive(Clone, Copy, PartialEq, Eq, Debug)]
 pub enum Stores {
     Nothing,
     One(Write),
-    Eight([Write; 8]),
+    /// The eight of PUSHA: the top of the stack, and the words that are pushed there, the first one first.
+    Eight(u32, [u32; 8]),
 }

@@ -9,7 +9,7 @@ use Rattle.i386_decode.specs.declared.form.Form.{Form}
 use Rattle.i386_decode.specs.declared.form.Operand.{Operand}
 use Rattle.i386_decode.specs.declared.form.Operand.TheVariants.{Immediate}
 use Rattle.i386_effects.specs.Operands.{value_of, with_operand, writes_to}
-use Rattle.i386_effects.specs.Change.{Change, Done}
+use Rattle.i386_effects.specs.Change.{Change, Done, eight_pushed}
 use Rattle.i386_effects.specs.declared.lists.Touch.{Touch}
 use Rattle.i386_effects.specs.declared.lists.Write.{Write}
 use Rattle.i386_execute.specs.Results.{first, with_general}
@@ -27,15 +27,11 @@ pushed f r ws =
     Done (with_esp (below r (size f.width)) r)
     (record { at = below r (size f.width); width = f.width; value = first f r ws } ∷ [])
 
--- PUSHA: the store of register i
-abbrev pub pushed_register : Registers → ℕ → Write
-pushed_register r i = record { at = below r (4 * i + 4); width = W32; value = slice_index r.general i }
-
--- EAX first and EDI last, with the old ESP
+-- PUSHA: EAX first and EDI last, with the old ESP
 unfoldable pub all_pushed : Registers → Change
 all_pushed r =
     Done (with_esp (below r 32) r)
-    (pushed_register r 0 ∷ pushed_register r 1 ∷ pushed_register r 2 ∷ pushed_register r 3 ∷ pushed_register r 4 ∷ pushed_register r 5 ∷ pushed_register r 6 ∷ pushed_register r 7 ∷ [])
+    (eight_pushed (esp r) r.general)
 
 -- POP
 unfoldable pub top_touches : Width → Registers → List Touch

@@ -1,5 +1,5 @@
 // Bit tests and bit scans.
-ghost use Rattle.std.specs.Prelude.{◌≡◌, ◌<◌, ◌^◌, ◌+◌, ◌%◌, length, Option};
+ghost use Rattle.std.specs.Prelude.{◌≡◌, ◌<◌, ◌^◌, ◌+◌, ◌%◌, [], Option};
 ghost use Rattle.cpu_state.specs.Width.{modulus};
 ghost use Rattle.i386_effects.specs.Change.{stores_of, whole};
 ghost use Rattle.i386_execute.specs.Bits.{bytes_away, tested_at, write_at, tested_touches, bit_tested, tested, bit_changed, scanned};
@@ -42,18 +42,16 @@ fn tested_at(width: Width, operand: &Operand, number: &Operand, general: &[u32; 
 
 // The load of the tested operand, if it stands in memory.
 #[tactic(auto, unfolding(crate::specs::Bits::tested_touches))]
-pub(crate) fn tested_touches(form: &Form, regs: &Registers) -> Touches
-    ensures value { result ≡ tested_touches form.now regs.now }
-    ensures short { length result < 9 }
+pub(crate) fn tested_touches(form: &Form, regs: &Registers, touches: &mut Touches)
+    requires { touches.old ≡ [] }
+    ensures { touches.new ≡ tested_touches form.now regs.now }
 {
-    let mut touches = Touches::new();
     if let Some(at) = tested_at(form.width, &form.first, &form.second, &regs.general) {
         touches.push(Touch {
             at,
             width: form.width,
         });
     }
-    touches
 }
 
 // What is made of the operand, and the flags after it.

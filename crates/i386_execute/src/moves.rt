@@ -1,5 +1,5 @@
 // Data movement.
-ghost use Rattle.std.specs.Prelude.{◌≡◌, ◌<◌, length};
+ghost use Rattle.std.specs.Prelude.{◌≡◌, ◌<◌, []};
 ghost use Rattle.cpu_state.specs.Width.{modulus};
 ghost use Rattle.i386_effects.specs.Change.{whole};
 ghost use Rattle.i386_execute.specs.Moves.{copied, exchanged, extended, width_named, extended_touches, narrow, zero_extended, sign_extended, half, widened, sign_spread, place_of, addressed, table_touches, translated, set_where};
@@ -59,18 +59,16 @@ fn width_named(operand: &Operand) -> Width
 
 // The load of MOVZX and MOVSX.
 #[tactic(auto, unfolding(crate::specs::Moves::extended_touches))]
-pub(crate) fn extended_touches(form: &Form, regs: &Registers) -> Touches
-    ensures value { result ≡ extended_touches form.now regs.now }
-    ensures short { length result < 9 }
+pub(crate) fn extended_touches(form: &Form, regs: &Registers, touches: &mut Touches)
+    requires { touches.old ≡ [] }
+    ensures { touches.new ≡ extended_touches form.now regs.now }
 {
-    let mut touches = Touches::new();
     touch(
         width_named(&form.third),
         &form.second,
         &regs.general,
-        &mut touches,
+        touches,
     );
-    touches
 }
 
 // The value of the second operand at the width that the third names.
@@ -168,17 +166,15 @@ pub(crate) fn addressed(form: &Form, regs: &mut Registers) -> Ending
 
 // The load of XLAT.
 #[tactic(auto, unfolding(crate::specs::Moves::table_touches))]
-pub(crate) fn table_touches(regs: &Registers) -> Touches
-    ensures value { result ≡ table_touches regs.now }
-    ensures short { length result < 9 }
+pub(crate) fn table_touches(regs: &Registers, touches: &mut Touches)
+    requires { touches.old ≡ [] }
+    ensures { touches.new ≡ table_touches regs.now }
 {
     let index = part(Width::W8, ACCUMULATOR, &regs.general);
-    let mut touches = Touches::new();
     touches.push(Touch {
         at: regs.general[EBX].wrapping_add(index),
         width: Width::W8,
     });
-    touches
 }
 
 // XLAT.

@@ -1,5 +1,5 @@
 // CLI, STI, PUSHF and POPF, performed.
-ghost use Rattle.std.specs.Prelude.{◌≡◌, ◌≢◌, ◌<◌, length, true};
+ghost use Rattle.std.specs.Prelude.{◌≡◌, ◌≢◌, [], true};
 ghost use Rattle.memory_model.specs.Laws.{SamePlace};
 ghost use Rattle.i386_effects.specs.Change.{whole};
 ghost use Rattle.i386_execute.specs.OwnFlag.{is_on_flag, flag_loads, flags_pushed, flags_popped, with_interrupt, flag_change, flag_unit, IsNextOrOutside};
@@ -13,13 +13,12 @@ use i386_effects::{Ending, Stores, Touches, Words, Write, apply, load_all, word}
 const FLAGS_SIZE: u32 = 4;
 
 // The load of POPF.
-fn flag_loads(kind: Privileged, regs: &Registers) -> Touches
-    ensures value { result ≡ flag_loads kind regs.now }
-    ensures short { length result < 9 }
+fn flag_loads(kind: Privileged, regs: &Registers, touches: &mut Touches)
+    requires { touches.old ≡ [] }
+    ensures { touches.new ≡ flag_loads kind regs.now }
 {
-    match kind {
-        Privileged::Popf => top_touches(Width::W32, regs),
-        _ => Touches::new(),
+    if let Privileged::Popf = kind {
+        top_touches(Width::W32, regs, touches);
     }
 }
 
@@ -82,7 +81,8 @@ fn perform_on_flag<B: Bus>(
     ensures lenders { B.lenders bus.new ≡ B.lenders bus.old }
 {
     let mut behind = moved_on(length, regs);
-    let touches = flag_loads(kind, &behind);
+    let mut touches = Touches::new();
+    flag_loads(kind, &behind, &mut touches);
     let mut words = Words::new();
     if let Some(at) = load_all(touches.as_slice(), &mut words, bus) {
         return Stepped::Outside(Access::Load, at);

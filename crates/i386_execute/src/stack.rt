@@ -1,10 +1,10 @@
 // The stack.
 ghost use Rattle.std.specs.Prelude.{◌≡◌, ◌<◌, ◌+◌, [], ◌∷◌, ◌++◌, length};
 ghost use Rattle.i386_effects.specs.Change.{whole};
-ghost use Rattle.i386_execute.specs.Stack.{below, above, pushed_register, slot, pushed, all_pushed, top_touches, popped, all_touches, all_popped, frame_touches, left, target_of, called, returned, jumped};
+ghost use Rattle.i386_execute.specs.Stack.{below, above, slot, pushed, all_pushed, top_touches, popped, all_touches, all_popped, frame_touches, left, target_of, called, returned, jumped};
 
 use crate::results::{first, port};
-use cpu_state::{EAX, EBP, EBX, ECX, EDI, EDX, ESI, ESP, Registers, Width};
+use cpu_state::{EBP, ESP, Registers, Width};
 use i386_decode::{Form, Operand};
 use i386_effects::{Ending, Stores, Touch, Touches, Write, set, store, word};
 
@@ -37,49 +37,26 @@ pub(crate) fn pushed(form: &Form, regs: &mut Registers, words: &[u32]) -> Ending
     }))
 }
 
-// The store of one register by PUSHA.
-fn pushed_register(regs: &Registers, i: usize) -> Write
-    requires { i < 8 }
-    ensures { result ≡ pushed_register regs.now i }
-{
-    Write {
-        at: below(regs, 4 * i as u32 + 4),
-        width: Width::W32,
-        value: regs.general[i],
-    }
-}
-
 // PUSHA.
 #[tactic(auto, unfolding(crate::specs::Stack::all_pushed))]
 pub(crate) fn all_pushed(regs: &mut Registers) -> Ending
     ensures { whole result regs.new ≡ all_pushed regs.old }
 {
-    let writes = [
-        pushed_register(regs, EAX),
-        pushed_register(regs, ECX),
-        pushed_register(regs, EDX),
-        pushed_register(regs, EBX),
-        pushed_register(regs, ESP),
-        pushed_register(regs, EBP),
-        pushed_register(regs, ESI),
-        pushed_register(regs, EDI),
-    ];
+    let stores = Stores::Eight(regs.general[ESP], regs.general);
     regs.general[ESP] = below(regs, 32);
-    Ending::Done(Stores::Eight(writes))
+    Ending::Done(stores)
 }
 
 // The load of POP and RET.
 #[tactic(auto, unfolding(crate::specs::Stack::top_touches))]
-pub(crate) fn top_touches(width: Width, regs: &Registers) -> Touches
-    ensures value { result ≡ top_touches width regs.now }
-    ensures short { length result < 9 }
+pub(crate) fn top_touches(width: Width, regs: &Registers, touches: &mut Touches)
+    requires { touches.old ≡ [] }
+    ensures { touches.new ≡ top_touches width regs.now }
 {
-    let mut touches = Touches::new();
     touches.push(Touch {
         at: regs.general[ESP],
         width,
     });
-    touches
 }
 
 // POP.
@@ -107,19 +84,17 @@ fn load_slot(regs: &Registers, n: u32, touches: &mut Touches)
 
 // The loads of POPA.
 #[tactic(auto, unfolding(crate::specs::Stack::all_touches))]
-pub(crate) fn all_touches(regs: &Registers) -> Touches
-    ensures value { result ≡ all_touches regs.now }
-    ensures short { length result < 9 }
+pub(crate) fn all_touches(regs: &Registers, touches: &mut Touches)
+    requires { touches.old ≡ [] }
+    ensures { touches.new ≡ all_touches regs.now }
 {
-    let mut touches = Touches::new();
-    load_slot(regs, 0, &mut touches);
-    load_slot(regs, 4, &mut touches);
-    load_slot(regs, 8, &mut touches);
-    load_slot(regs, 16, &mut touches);
-    load_slot(regs, 20, &mut touches);
-    load_slot(regs, 24, &mut touches);
-    load_slot(regs, 28, &mut touches);
-    touches
+    load_slot(regs, 0, touches);
+    load_slot(regs, 4, touches);
+    load_slot(regs, 8, touches);
+    load_slot(regs, 16, touches);
+    load_slot(regs, 20, touches);
+    load_slot(regs, 24, touches);
+    load_slot(regs, 28, touches);
 }
 
 // POPA.
@@ -143,16 +118,14 @@ pub(crate) fn all_popped(regs: &mut Registers, words: &[u32]) -> Ending
 
 // The load of LEAVE.
 #[tactic(auto, unfolding(crate::specs::Stack::frame_touches))]
-pub(crate) fn frame_touches(regs: &Registers) -> Touches
-    ensures value { result ≡ frame_touches regs.now }
-    ensures short { length result < 9 }
+pub(crate) fn frame_touches(regs: &Registers, touches: &mut Touches)
+    requires { touches.old ≡ [] }
+    ensures { touches.new ≡ frame_touches regs.now }
 {
-    let mut touches = Touches::new();
     touches.push(Touch {
         at: regs.general[EBP],
         width: Width::W32,
     });
-    touches
 }
 
 // LEAVE.

@@ -9,7 +9,7 @@ use crate::changes::change;
 use crate::loads::loads;
 use cpu_state::{Access, Bus, Op, Privileged, Registers};
 use i386_decode::{Decoded, Form, decode};
-use i386_effects::{Outcome, Words, apply, load_all};
+use i386_effects::{Outcome, Touches, Words, apply, load_all};
 use i386_strings::{Iteration, iterate};
 
 /// What a unit came to. Only in the first case anything changed.
@@ -89,7 +89,8 @@ fn perform<B: Bus>(form: &Form, length: u8, regs: &mut Registers, bus: &mut B) -
     ensures lenders { B.lenders bus.new ≡ B.lenders bus.old }
 {
     let mut behind = moved_on(length, regs);
-    let touches = loads(form, &behind);
+    let mut touches = Touches::new();
+    loads(form, &behind, &mut touches);
     let mut words = Words::new();
     if let Some(at) = load_all(touches.as_slice(), &mut words, bus) {
         return Outcome::Outside(Access::Load, at);

@@ -1,5 +1,5 @@
 // One iteration.
-ghost use Rattle.std.specs.Prelude.{◌≡◌, ◌<◌, length, true};
+ghost use Rattle.std.specs.Prelude.{◌≡◌, [], true};
 ghost use Rattle.memory_model.specs.Laws.{SamePlace};
 ghost use Rattle.cpu_state.specs.Width.{modulus};
 ghost use Rattle.i386_decode.specs.WellFormed.{is_string};
@@ -25,9 +25,9 @@ pub enum Iteration {
 }
 
 // The loads, in order.
-fn loads(op: Op, width: Width, regs: &Registers) -> Touches
-    ensures value { result ≡ string_loads op width regs.now }
-    ensures short { length result < 8 }
+fn loads(op: Op, width: Width, regs: &Registers, touches: &mut Touches)
+    requires { touches.old ≡ [] }
+    ensures { touches.new ≡ string_loads op width regs.now }
 {
     let source = Touch {
         at: regs.general[ESI],
@@ -37,7 +37,6 @@ fn loads(op: Op, width: Width, regs: &Registers) -> Touches
         at: regs.general[EDI],
         width,
     };
-    let mut touches = Touches::new();
     match op {
         Op::Movs => touches.push(source),
         Op::Lods => touches.push(source),
@@ -48,7 +47,6 @@ fn loads(op: Op, width: Width, regs: &Registers) -> Touches
         Op::Scas => touches.push(target),
         _ => {}
     }
-    touches
 }
 
 // The store to [EDI].
@@ -242,7 +240,8 @@ pub fn iterate<B: Bus>(form: &Form, regs: &mut Registers, bus: &mut B) -> Iterat
     if repeats(form.repeat) && regs.general[ECX] == 0 {
         return Iteration::Finished;
     }
-    let touches = loads(form.op, form.width, regs);
+    let mut touches = Touches::new();
+    loads(form.op, form.width, regs, &mut touches);
     let mut words = Words::new();
     if let Some(at) = load_all(touches.as_slice(), &mut words, bus) {
         return Iteration::Outside(Access::Load, at);
