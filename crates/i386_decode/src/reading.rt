@@ -1,9 +1,9 @@
 // Reading an instruction.
-ghost use Rattle.std.specs.Prelude.{◌≡◌, ◌<◌, ◌≤◌, ◌^◌, ◌+◌, length, take, ℕ, ◌↔◌, ◌||◌, ◌==◌, Some};
+ghost use Rattle.std.specs.Prelude.{◌≡◌, ◌<◌, ◌≤◌, ◌^◌, ◌+◌, length, take, ℕ, ◌↔◌, ◌||◌, ◌==◌, option_copied};
 ghost use Rattle.i386_decode.specs.declared.form.Form.{Form};
 ghost use Rattle.i386_decode.specs.Fields.{is_prefix, is_narrow, repeat_of, repeat_by};
-ghost use Rattle.i386_decode.specs.Spelling.{entry_of, BeginsWith, BeginsSpelling, SpellsNothing};
-ghost use Rattle.i386_decode.specs.Reading.{front, opcode_at, least_modrm, modrm_or, fields_at, row_read, entry_read, decode_of};
+ghost use Rattle.i386_decode.specs.Spelling.{entry_of, row_at, BeginsWith, BeginsSpelling, SpellsNothing};
+ghost use Rattle.i386_decode.specs.Reading.{front, opcode_at, least_modrm, modrm_or, fields_at, entry_read, decode_of};
 ghost use Rattle.i386_decode.specs.WellFormed.{IsWellFormed, WhenForm};
 
 use crate::fields::{
@@ -154,6 +154,18 @@ fn modrm_byte(least: Option<u8>, bytes: &[u8]) -> u8
     }
 }
 
+/// The row that the reg field picks at an entry.
+fn row_of(entry: &Entry, reg: u8) -> Option<&Row>
+    requires { reg < 8 }
+    ensures { option_copied result ≡ row_at entry.now reg }
+{
+    match entry {
+        Entry::Invalid => None,
+        Entry::One(row) => Some(row),
+        Entry::Many(group) => group_entry(*group, reg).as_ref(),
+    }
+}
+
 /// What follows the ModRM byte, behind `used` bytes of `len`.
 #[tactic(auto, unfolding(crate::specs::Reading::fields_at))]
 fn read_fields(
@@ -193,34 +205,6 @@ fn read_fields(
     }
 }
 
-/// What follows the opcode of a row, behind `used` bytes of `len`.
-fn read_row(
-    row: &Row,
-    narrow: bool,
-    repeat: Repeat,
-    used: usize,
-    len: usize,
-    modrm: u8,
-    bytes: &[u8],
-) -> Decoded
-    requires { used < 2 ^ 63 + 2 }
-    ensures { result ≡ row_read (Some row.now) narrow repeat used len modrm bytes.now }
-{
-    if row.barred && narrow || wants_memory(row.modrm) && is_register(modrm) {
-        return Decoded::Undefined;
-    }
-    let size = modrm_count(row.modrm);
-    read_fields(
-        row,
-        narrow,
-        repeat,
-        used + size,
-        len,
-        modrm,
-        skip(bytes, size),
-    )
-}
-
 /// What follows the opcode, behind `used` bytes of `len`.
 #[tactic(auto, unfolding(crate::specs::Reading::entry_read))]
 fn read_entry(
@@ -235,14 +219,22 @@ fn read_entry(
     ensures { result ≡ entry_read entry.now narrow repeat used len bytes.now }
 {
     let modrm = modrm_byte(least_modrm_byte(entry), bytes);
-    match entry {
-        Entry::Invalid => Decoded::Undefined,
-        Entry::One(row) => read_row(row, narrow, repeat, used, len, modrm, bytes),
-        Entry::Many(group) => match group_entry(*group, reg_of(modrm)) {
-            Some(row) => read_row(row, narrow, repeat, used, len, modrm, bytes),
-            None => Decoded::Undefined,
-        },
+    let Some(row) = row_of(entry, reg_of(modrm)) else {
+        return Decoded::Undefined;
+    };
+    if row.barred && narrow || wants_memory(row.modrm) && is_register(modrm) {
+        return Decoded::Undefined;
     }
+    let size = modrm_count(row.modrm);
+    read_fields(
+        row,
+        narrow,
+        repeat,
+        used + size,
+        len,
+        modrm,
+        skip(bytes, size),
+    )
 }
 
 /// The bytes that can belong to the instruction at the front.

@@ -127,12 +127,13 @@ pub fn step<B: Bus>(regs: &mut Registers, bus: &mut B) -> Stepped
 {
     let mut bytes = [0; 15];
     let count = bus.fetch(regs.eip, &mut bytes);
-    match decode(&bytes[..count]) {
+    let decoded = decode(&bytes[..count]);
+    match &decoded {
         Decoded::Form(form, length) => {
             if is_string(form.op) {
-                perform_string(&form, length, regs, bus)
+                perform_string(form, *length, regs, bus)
             } else {
-                stepped_by(perform(&form, length, regs, bus))
+                stepped_by(perform(form, *length, regs, bus))
             }
         }
         Decoded::Undefined => Stepped::Trap(INVALID_OPCODE),
