@@ -1,10 +1,10 @@
 // The store in memory.
-ghost use Rattle.std.specs.Prelude.{◌≡◌, ◌≤◌, ◌||◌, ◌↔◌, ◌+◌, ℕ, List, [], length, Option, Some, None, IsTrue, IsErrOf, IfOk, IfErr, is_none, take, MatchOption, option_copied, min, ◌-◌, ◌^◌};
+ghost use Rattle.std.specs.Prelude.{◌≡◌, ◌≤◌, ◌||◌, ◌↔◌, ◌+◌, [], length, Option, Some, None, IsTrue, IsErrOf, IfOk, IfErr, is_none, option_copied, min, ◌-◌, ◌^◌};
 ghost use Rattle.outside_io.specs.Memory.{content_of, file_of, is_named, same_bytes};
 ghost use Rattle.outside_io.specs.Causes.{Rose};
 ghost use Rattle.outside_io.specs.Store.{Fetches};
 
-use crate::{Content, Fetched, Store, StoreFault};
+use crate::{Content, Fetched, LastName, Store, StoreFault};
 use std::alloc::Global;
 
 /// A store over pairs of a name and bytes, for tests: it fails at the fetches that it was told, and at names that it
@@ -15,9 +15,7 @@ pub struct MemoryStore {
     failing: Vec<u32>,
     fetches: u32,
     faults: u64,
-    last: [u8; 255],
-    last_len: usize,
-    ghost short: { last_len ≤ 255 },
+    last: LastName,
 }
 
 impl MemoryStore {
@@ -37,8 +35,7 @@ impl MemoryStore {
             failing,
             fetches: 0,
             faults: 0,
-            last: [0; 255],
-            last_len: 0,
+            last: LastName::new(),
         }
     }
 
@@ -54,7 +51,7 @@ impl MemoryStore {
         ensures fetches { fetch_count self.new ≡ fetch_count self.old }
     {
         self.faults = self.faults.saturating_add(1);
-        self.last_len = keep_name(&mut self.last, name.as_bytes());
+        self.last.keep(name.as_bytes());
         StoreFault::Failed
     }
 }
@@ -79,16 +76,6 @@ fn find_file<'a>(files: &'a [(String, Vec<u8>)], name: &str) -> Option<&'a (Stri
     files
         .iter()
         .find(|file| same(file.0.as_bytes(), name.as_bytes()))
-}
-
-// Keeps a name in place.
-fn keep_name(last: &mut [u8; 255], name: &[u8]) -> usize
-    requires { length name.now ≤ 255 }
-    ensures len { result ≡ length name.now }
-    ensures name { take result last.new ≡ name.now }
-{
-    last[..name.len()].copy_from_slice(name);
-    name.len()
 }
 
 impl Store for MemoryStore {

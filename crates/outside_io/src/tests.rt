@@ -1,11 +1,12 @@
 // The store and the sink in memory.
-use crate::{Fetched, MemorySink, MemoryStore, Sink, Store, StoreFault};
+use crate::{Fetched, LastName, MemorySink, MemoryStore, Sink, Store, StoreFault};
 use std::alloc::Global;
 use std::test::Fail;
 
-fn size_of(fetched: Result<Fetched, StoreFault>) -> Option<usize> {
+// The bytes that were fetched.
+fn bytes_of(fetched: Result<Fetched, StoreFault>) -> Option<Vec<u8>> {
     match fetched {
-        Ok(Fetched::Bytes(content)) => Some(content.as_slice().len()),
+        Ok(Fetched::Bytes(content)) => Some(content.into_vec()),
         _ => None,
     }
 }
@@ -21,7 +22,8 @@ fn two_files(alloc: Global) -> Result<Vec<(String, Vec<u8>)>, Fail> {
 fn the_store_holds_files_and_fails_where_told(rt: HostRuntime) -> Result<(), Fail> {
     let alloc = rt.alloc();
     let mut store = MemoryStore::new(two_files(alloc)?, [2].to_vec(alloc)?);
-    assert_eq!(rt; size_of(store.fetch(alloc, "a", 5)), Some(5));
+    let first = bytes_of(store.fetch(alloc, "a", 5)).ok_or("not fetched")?;
+    assert_eq!(rt; first.as_slice(), b"12345".as_slice());
     assert_eq!(rt; store.fetch(alloc, "a", 5).err(), Some(StoreFault::Failed));
     assert!(rt; matches!(store.fetch(alloc, "a", 4), Ok(Fetched::Larger)));
     assert_eq!(rt; store.fetch(alloc, "b", 5).err(), Some(StoreFault::Failed));
@@ -40,4 +42,13 @@ fn the_sink_keeps_what_fits_and_fails_where_told(rt: HostRuntime) -> Result<(), 
     assert!(rt; sink.put(b"k").is_err());
     assert_eq!(rt; sink.written(), b"abcdghij".as_slice());
     Ok(())
+}
+
+#[test]
+fn a_shorter_name_is_kept_in_place_of_a_longer_one(rt: HostRuntime) {
+    let mut last = LastName::new();
+    assert!(rt; last.as_slice().is_empty());
+    last.keep(b"s.toml");
+    last.keep(b"k");
+    assert_eq!(rt; last.as_slice(), b"k".as_slice());
 }
