@@ -15,12 +15,6 @@ use Rattle.std.proofs.lemmas.List.Elements.{All-push, All-nil, All-append}
 use Rattle.elf_loader.specs.Place.{Fits}
 use Rattle.elf_loader.specs.declared.image.Image.{Image}
 
-pub headers-start : (t n : ℕ) (bytes : List ℕ) → headers_from (t + 32 * 0) (n - 0) bytes ≡ headers_from t n bytes
-headers-start t n bytes =
-    let a : t + 32 * 0 ≡ t = omega arith in
-    let b : n - 0 ≡ n = omega arith in
-    rw (a, b) refl
-
 pub headers-step : (t n i : ℕ) (bytes : List ℕ) → i < n
     → headers_from (t + 32 * i) (n - i) bytes ≡ header_at (t + 32 * i) bytes ∷ headers_from (t + 32 * (i + 1)) (n - (i + 1)) bytes
 headers-step t n i bytes h =
@@ -28,15 +22,9 @@ headers-step t n i bytes h =
     let b : n - i ≡ suc (n - (i + 1)) = omega arith in
     rw (a, b) refl
 
-pub headers-end : (t n i : ℕ) (bytes : List ℕ) → n ≤ i → headers_from t (n - i) bytes ≡ []
-headers-end t n i bytes h = let b : n - i ≡ 0 = omega arith in rw b refl
-
 -- a header that is no fault, before others
 pub fault-later : (len : ℕ) (h : ProgramHeader) (hs : List ProgramHeader) → fault_in len h ≡ None → first_fault len (h ∷ hs) ≡ first_fault len hs
 fault-later len h hs e = rw e refl
-
-pub fault-here : (len k : ℕ) (h : ProgramHeader) (hs : List ProgramHeader) → fault_in len h ≡ Some k → first_fault len (h ∷ hs) ≡ Some k
-fault-here len k h hs e = rw e refl
 
 either : (a b : Option ℕ) → or_else a b ≡ None → (a ≡ None) × (b ≡ None)
 either None b h = (refl, h)

@@ -1,5 +1,5 @@
 // The file header and the program headers.
-ghost use Rattle.std.specs.Prelude.{◌≡◌, ◌≤◌, ◌+◌, ◌*◌, length, None, true, OnOk};
+ghost use Rattle.std.specs.Prelude.{◌≡◌, ◌≤◌, ◌+◌, ◌*◌, length, true, OnOk};
 ghost use Rattle.elf_loader.specs.File.{header_at, e_entry, e_phoff, e_phnum, header_fault, has_magic as magic_test, has_good_table as table_test, fault_in};
 ghost use Rattle.elf_loader.specs.Answers.{HasTable, Tests};
 
@@ -157,8 +157,8 @@ fn has_good_table(bytes: &[u8]) -> bool
     if count == 0 {
         return true;
     }
-    let end = u64::from(word(bytes, E_PHOFF)) + 32 * u64::from(count);
-    half(bytes, E_PHENTSIZE) == 32 && end <= bytes.len() as u64
+    let end = u64::from(word(bytes, E_PHOFF)) + PROGRAM_HEADER_SIZE as u64 * u64::from(count);
+    usize::from(half(bytes, E_PHENTSIZE)) == PROGRAM_HEADER_SIZE && end <= bytes.len() as u64
 }
 
 /// Tests a program header, in a file of this length: the rules 7 to 9.

@@ -1,6 +1,7 @@
 // What is loaded of a file, and why one isn't taken.
 
-use crate::content::{Content, Segments};
+use crate::segments::Segments;
+use outside_io::Content;
 
 /// A part of an image: its bytes, and zeros behind them up to its size.
 #[derive(Drop)]

@@ -2,18 +2,18 @@
 //! memory.
 #![tactic(auto)]
 
-mod content;
 mod field;
 mod header;
 mod image;
 mod placing;
 mod read;
+mod segments;
 mod spans;
 #[cfg(test)]
 mod tests;
 
-pub use content::{Content, Segments};
 pub use image::{ElfRefusal, Image, Segment};
 pub use placing::{PlaceRefusal, place};
 pub use read::read_image;
+pub use segments::Segments;
 pub use spans::Spans;

@@ -7,7 +7,7 @@ ghost use Rattle.elf_loader.specs.Place.{span_of, all_inside, with_segment, with
 
 use crate::image::{Image, Segment};
 use crate::spans::Spans;
-use flat_memory::Side;
+use flat_memory::{Side, fits};
 
 /// Why an image isn't placed. Nothing has changed then.
 #[derive(Clone, Copy, Debug, PartialEq, Eq)]
@@ -49,9 +49,7 @@ fn is_inside(side: &Side<'_>, segment: &Segment) -> bool
     requires { side.now.first + length side.now.bytes.now < 2 ^ 32 }
     ensures { result ≡ covers (side_of side.now) segment.now.place segment.now.size }
 {
-    let end = u64::from(segment.place) + u64::from(segment.size);
-    let last = u64::from(side.first) + side.bytes.len() as u64;
-    segment.size == 0 || (side.first <= segment.place && end <= last)
+    fits(side.first, &*side.bytes, segment.place, segment.size)
 }
 
 fn take_one(taken: &mut Spans, span: (u32, u32)) -> Result<(), PlaceRefusal>

@@ -1,15 +1,16 @@
 // Reading a file.
-ghost use Rattle.std.specs.Prelude.{◌≡◌, ◌≤◌, ◌<◌, ◌+◌, ◌*◌, ◌++◌, length, None, IfOk, All};
+ghost use Rattle.std.specs.Prelude.{◌≡◌, ◌≤◌, ◌<◌, ◌+◌, ◌*◌, length, None, IfOk, All};
 ghost use Rattle.elf_loader.specs.Place.{Fits};
 ghost use Rattle.elf_loader.specs.File.{image_of, headers_from, first_fault, segments_of, segment_of, fault_in};
 ghost use Rattle.elf_loader.specs.Answers.{Adds, Answers, Tests, Makes};
 
-use crate::content::{Content, Segments};
 use crate::header::{
     PROGRAM_HEADER_SIZE, PT_LOAD, ProgramHeader, check_file, check_header, entry, header_of,
     table_count, table_offset,
 };
 use crate::image::{ElfRefusal, Image, Segment};
+use crate::segments::Segments;
+use outside_io::Content;
 use std::alloc::Global;
 
 /// Reads the bytes of an ELF32 file. Each part of type PT_LOAD that has a size in memory is a segment at its virtual

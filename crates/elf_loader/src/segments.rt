@@ -1,46 +1,9 @@
-// Bytes, and lists of segments, which contracts see as lists.
+// Segments in order.
 
 ghost use Rattle.std.specs.Prelude.{◌≡◌};
 
 use crate::image::Segment;
 use std::marker::Model;
-
-/// The bytes of a segment. Contracts see their list.
-#[derive(Drop)]
-pub struct Content {
-    bytes: Vec<u8>,
-}
-
-impl Model for Content {
-    ghost use Rattle.std.specs.Prelude.{List, ℕ};
-
-    ghost Value = { List ℕ };
-
-    ghost view = { λ c. c.bytes.items };
-}
-
-impl Content {
-    /// These bytes.
-    pub fn new(bytes: Vec<u8>) -> Content
-        ensures { result ≡ bytes.items }
-    {
-        Content { bytes }
-    }
-
-    /// The bytes, to be read.
-    pub fn as_slice(&self) -> &[u8]
-        ensures { result.now ≡ self.now }
-    {
-        self.bytes.as_slice()
-    }
-
-    /// The bytes, given back.
-    pub fn into_vec(self) -> Vec<u8>
-        ensures { result.items ≡ self }
-    {
-        self.bytes
-    }
-}
 
 /// The segments of an image. Contracts see their list.
 #[derive(Drop)]

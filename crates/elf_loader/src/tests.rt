@@ -294,3 +294,13 @@ fn a_file_that_a_linker_wrote(rt: HostRuntime) {
         Err(refusal) => assert!(rt; false, "{refusal:?}"),
     }
 }
+
+#[test]
+fn segments_and_their_bytes_are_given_back(rt: HostRuntime) -> Result<(), Fail> {
+    let image = read_image(rt.alloc(), &SMALL).ok().ok_or("no image")?;
+    let mut segments = image.segments.into_vec();
+    let segment = segments.pop().ok_or("no segment")?;
+    assert!(rt; segments.is_empty());
+    assert_eq!(rt; segment.bytes.into_vec().as_slice(), b"\xEB\xFE".as_slice());
+    Ok(())
+}

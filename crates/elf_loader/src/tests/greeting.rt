@@ -1,4 +1,5 @@
-// The executable of tests/greeting.c, as tests/make_greeting.sh made it.
+// The executable of tests/greeting.c, as tests/make_greeting.sh made it with gcc 12.2.0 and GNU ld 2.40 (Debian 12),
+// 2026-12-01.
 
 pub const GREETING: [u8; 708] = [
     0x7F, 0x45, 0x4C, 0x46, 0x01, 0x01, 0x01, 0x00, 0x00, 0x00, 0x00, 0x00, 0x00, 0x00, 0x00, 0x00,
