@@ -1,5 +1,5 @@
 // Loads and stores over a side: a first address, and the bytes from there on.
-ghost use Rattle.std.specs.Prelude.{◌≡◌, ◌≤◌, ◌-◌, ◌+◌, ◌%◌, ◌^◌, ◌++◌, length, take, drop, if◌then◌else◌, None};
+ghost use Rattle.std.specs.Prelude.{◌≡◌, ◌≤◌, ◌-◌, ◌+◌, ◌%◌, ◌++◌, length, take, drop, if◌then◌else◌, None};
 ghost use Rattle.byteorder.specs.Endian.{little_bytes};
 ghost use Rattle.memory_model.specs.Side.{inside, covers, bytes_from, loaded, stored_inside};
 ghost use Rattle.flat_memory.specs.Side.{side_at};

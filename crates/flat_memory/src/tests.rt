@@ -15,6 +15,12 @@ fn words_are_little_endian(rt: HostRuntime) -> Result<(), Fail> {
     assert!(rt; !side.store16(0x1007, 1));
     assert!(rt; side.store16(0x1006, 0xffff_0001));
     assert_eq!(rt; side.load16(0x1006), Some(1));
+    assert!(rt; side.store8(0x1007, 0xFFFF_FF90));
+    assert_eq!(rt; side.load16(0x1006), Some(0x9001));
+    assert!(rt; !side.store8(0x1008, 1));
+    assert_eq!(rt; side.first(), 0x1000);
+    assert_eq!(rt; side.size(), 8);
+    assert_eq!(rt; side.bytes()[7], 0x90);
     Ok(())
 }
 
