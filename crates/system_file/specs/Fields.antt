@@ -1,6 +1,7 @@
 -- The fields of a system file, and what each may hold, over the document that the `toml` crate's definition gives.
 use Rattle.std.specs.Prelude.{ℕ, pos, ◌%◌, ◌==◌, ◌&&◌, ◌||◌, Bool, true, List, [], ◌∷◌, length, codes, nat_le, if◌then◌else◌, Option, Some, None, option_map, option_and_then}
 use Rattle.std.specs.Str.{bytes_eq}
+use Rattle.outside_io.specs.Names.{is_name}
 use Rattle.toml.specs.Data.{Data, string, integer, array, Items, no_items, item, Members, no_members, member, get_member}
 use Rattle.system_file.specs.declared.system.System.{System}
 
@@ -17,9 +18,6 @@ version_of (integer (pos n)) = if is_version n then Some n else None
 version_of _ = None
 
 -- a name: a text of 1 to 255 bytes
-abbrev pub is_name : List ℕ → Bool
-is_name text = nat_le 1 (length text) && nat_le (length text) 255
-
 abbrev pub name_of : Data → Option (List ℕ)
 name_of (string text) = if is_name text then Some text else None
 name_of _ = None

@@ -1,6 +1,6 @@
 // Names of files, and lists of them.
 
-ghost use Rattle.std.specs.Prelude.{◌≡◌, string_bytes, length};
+ghost use Rattle.std.specs.Prelude.{◌≡◌, string_bytes};
 
 use std::marker::Model;
 

@@ -1,16 +1,17 @@
 // Reading a system file.
-ghost use Rattle.std.specs.Prelude.{◌≡◌, Some, None, pos, option_map, codes, length, ◌≤◌, [], ℕ};
+ghost use Rattle.std.specs.Prelude.{◌≡◌, Some, None, option_map, []};
 ghost use Rattle.std.specs.Prelude.{string_bytes};
 ghost use Rattle.std.specs.List.{list_all};
 ghost use Rattle.std.specs.BTreeMap.{keys};
 ghost use Rattle.toml.specs.Data.{array, integer, string, get_member};
 ghost use Rattle.toml.specs.View.{view, table_view, items_view};
 ghost use Rattle.system_file.specs.Answers.{Gives, Answers};
-ghost use Rattle.system_file.specs.Fields.{version_of, name_of, names_in, names_of, size_of, is_field, is_name, has_only_fields, system_of, required, optional};
+ghost use Rattle.system_file.specs.Fields.{version_of, name_of, names_in, names_of, size_of, is_field, has_only_fields, system_of, required, optional};
 ghost use Rattle.system_file.specs.Read.{read_of};
 
 use crate::name::{Name, Names};
 use crate::system::{System, SystemRefusal};
+use outside_io::NAME_LIMIT;
 use std::alloc::Global;
 use toml::{Table, Value};
 
@@ -22,8 +23,6 @@ const MOST_GUEST_MEMORY: u32 = 16_777_216;
 const MOST_REAL_TIME_MEMORY: u32 = 4_194_304;
 /// Sizes are multiples of this.
 const PAGE: u32 = 4_096;
-/// The greatest length of a name, in bytes.
-const MOST_NAME_BYTES: usize = 255;
 /// How many modules there may be.
 const MOST_MODULES: usize = 16;
 
@@ -143,7 +142,7 @@ fn name(alloc: Global, value: &Value) -> Result<Name, SystemRefusal>
 fn copied(alloc: Global, text: &str) -> Result<Name, SystemRefusal>
     ensures { Gives result (name_of (string text.now)) }
 {
-    if text.is_empty() || text.len() > MOST_NAME_BYTES {
+    if text.is_empty() || text.len() > NAME_LIMIT {
         return Err(SystemRefusal::Field);
     }
     match String::from_str(alloc, text) {

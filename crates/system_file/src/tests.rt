@@ -3,6 +3,7 @@
 use crate::{SystemRefusal, read_system};
 use std::alloc::{AllocError, Global};
 use std::process::Abort;
+use std::test::Fail;
 
 /// What a reading gives.
 #[derive(Clone, Copy, Debug, PartialEq, Eq)]
@@ -246,4 +247,19 @@ fn what_a_file_holds(rt: HostRuntime) {
         }
         Err(refusal) => assert!(rt; false, "{refusal:?}"),
     }
+}
+
+#[test]
+fn names_are_given_back(rt: HostRuntime) -> Result<(), Fail> {
+    let text =
+        "version = 1\nimage = 'k.bin'\nguest_memory = 65536\nreal_time_memory = 65536\nmodules = ['m', 'n']\n";
+    let system = read_system(rt.alloc(), text.as_bytes())
+        .ok()
+        .ok_or("no system")?;
+    assert_eq!(rt; system.image.into_string().as_str(), "k.bin");
+    let mut names = system.modules.into_vec();
+    let last = names.pop().ok_or("no module")?;
+    assert_eq!(rt; last.as_str(), "n");
+    assert_eq!(rt; names.len(), 1);
+    Ok(())
 }
