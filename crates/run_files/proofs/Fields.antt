@@ -4,10 +4,11 @@ use Rattle.std.specs.Prelude.{if◌then◌else◌, IfSome, IfOk, Result}
 use Rattle.std.proofs.lemmas.Bool.Decides.{nat_tests}
 use Rattle.toml.specs.Data.{Data, string, integer, float, boolean, datetime, array, table, Members, get_member}
 use Rattle.system_file.specs.declared.system.System.{System}
-use Rattle.system_file.specs.Fields.{required, optional, size_of, is_size, name_of, names_of, is_name, version_of, fields_of, system_of, has_only_fields, ◌>>=◌}
+use Rattle.system_file.specs.Fields.{required, optional, size_of, is_size, name_of, names_of, version_of, fields_of, system_of, has_only_fields, ◌>>=◌}
 use Rattle.system_file.specs.Read.{document_of}
 use Rattle.run_files.specs.declared.cause.Refusal.{Refusal}
-use Rattle.run_files.specs.Files.{Accepts, IsName, IsAccepted, system_in, members_in, fields_in, alone}
+use Rattle.outside_io.specs.Names.{is_name, IsName}
+use Rattle.run_files.specs.Files.{Accepts, IsAccepted, system_in, members_in, fields_in, alone}
 
 required_good : {A : Type 0} (P : A → Type 0) (read : Data → Option A) (o : Option Data) (x : A) → ((d : Data) (y : A) → read d ≡ Some y → P y) → required read o ≡ Some x → P x
 required_good P read None x good same = absurd cc

@@ -1,5 +1,6 @@
 -- The files of a run: what the bytes of each make, or why they are refused.
-use Rattle.std.specs.Prelude.{◌≡◌, ◌≢◌, ◌≤◌, ℕ, List, [], ◌∷◌, length, IfSome, Option, Some, None, Result, Ok, Err}
+use Rattle.std.specs.Prelude.{◌≡◌, ◌≢◌, ◌≤◌, ◌^◌, ℕ, List, [], ◌∷◌, IfSome, Option, Some, None, Result, Ok, Err}
+use Rattle.outside_io.specs.Names.{IsName}
 use Rattle.toml.specs.Data.{Members}
 use Rattle.system_file.specs.declared.system.System.{System}
 use Rattle.system_file.specs.Fields.{system_of}
@@ -16,6 +17,10 @@ use Rattle.run_files.specs.declared.cause.Cause.{Cause}
 use Rattle.run_files.specs.declared.cause.Cause.TheVariants as cause
 use Rattle.run_files.specs.declared.cause.Refusal.{Refusal}
 use Rattle.run_files.specs.declared.cause.Refusal.TheVariants.{Because, NoMemory}
+
+-- the most bytes of a file: 33,554,432
+abbrev pub file_limit : ℕ
+file_limit = 2 ^ 25
 
 -- The system file
 
@@ -38,10 +43,6 @@ members_in (Some members) = fields_in (system_of members)
 -- first that there is a document (TOML 1.1), then its fields
 unfoldable pub system_in : List ℕ → Result System Cause
 system_in bytes = members_in (document_of bytes)
-
--- a name has 1 to 255 bytes
-abbrev pub IsName : List ℕ → Type 0
-IsName text = (1 ≤ length text) × (length text ≤ 255)
 
 -- what the fields of an accepted system keep
 pub record IsAccepted (system : System) : Type 0 where

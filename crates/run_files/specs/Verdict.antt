@@ -10,7 +10,7 @@ use Rattle.device_script.specs.declared.script.Script.{Script}
 use Rattle.run_files.specs.declared.run.AcceptedRun.{AcceptedRun}
 use Rattle.run_files.specs.declared.cause.Cause.{Cause}
 use Rattle.run_files.specs.declared.cause.Cause.TheVariants as cause
-use Rattle.run_files.specs.Files.{system_in, sides_in, script_in}
+use Rattle.run_files.specs.Files.{file_limit, system_in, sides_in, script_in}
 
 -- a cause, and the name of the file or the word
 abbrev pub About : Type 0
@@ -28,10 +28,10 @@ abbrev pub named : {A : Type 0} → List ℕ → Result A Cause → Result A Abo
 named name (Ok x) = Ok x
 named name (Err why) = Err (why, name)
 
--- the bytes of a file, which are at most 33,554,432
+-- the bytes of a file, which are no more than the limit
 abbrev pub content_of : Option (List ℕ) → Result (List ℕ) Cause
 content_of None = Err cause.Read
-content_of (Some bytes) = if nat_lt 33554432 (length bytes) then Err cause.TooLarge else Ok bytes
+content_of (Some bytes) = if nat_lt file_limit (length bytes) then Err cause.TooLarge else Ok bytes
 
 -- what is made of a file, by what its name holds
 abbrev pub made : {A : Type 0} → (List ℕ → Result A Cause) → Option (List ℕ) → Result A Cause

@@ -2,7 +2,7 @@
 ghost use Rattle.std.specs.Prelude.{◌≡◌, ◌≤◌, length, IfOk, All};
 ghost use Rattle.elf_loader.specs.Place.{Fits};
 ghost use Rattle.device_script.specs.Event.{IsScript};
-ghost use Rattle.run_files.specs.Files.{Accepts, BlamesBytes, IsAccepted, system_in, without_modules, placed_in, sides_in, script_in};
+ghost use Rattle.run_files.specs.Files.{Accepts, BlamesBytes, IsAccepted, system_in, without_modules, placed_in, sides_in, script_in, file_limit};
 
 use crate::cause::{Cause, Refusal};
 use device_script::{Script, ScriptRefusal, read_script};
@@ -85,7 +85,7 @@ fn placed(alloc: Global, system: &System, image: &Image) -> Result<Sides, Refusa
 /// Reads the script.
 #[tactic(auto, unfolding(crate::specs::Files::script_in))]
 pub fn accept_script(alloc: Global, bytes: &[u8]) -> Result<Script, Refusal>
-    requires { length bytes.now ≤ 33554432 }
+    requires { length bytes.now ≤ file_limit }
     ensures exact { Accepts result (script_in bytes.now) }
     ensures blame { BlamesBytes result }
     ensures rules { IfOk result (λ script. IsScript script.events) }

@@ -76,7 +76,7 @@ fn an_image_beside_the_stub(rt: HostRuntime) -> Result<(), Fail> {
 }
 
 #[test]
-fn scripts(rt: HostRuntime) {
+fn a_script_is_refused_by_its_first_bad_line(rt: HostRuntime) {
     let alloc = rt.alloc();
     assert!(rt; accept_script(alloc, b"# nothing\n").is_ok());
     assert_eq!(rt;
