@@ -1,7 +1,7 @@
 // The files of a run, fetched.
 ghost use Rattle.std.specs.Prelude.{◌≡◌, ◌≤◌, length, IfOk, IfSome};
 ghost use Rattle.device_script.specs.Event.{IsScript};
-ghost use Rattle.run_files.specs.Files.{IsAccepted, system_in, sides_in, script_in};
+ghost use Rattle.run_files.specs.Files.{IsAccepted, system_in, sides_in, script_in, file_limit};
 ghost use Rattle.run_files.specs.Verdict.{content_of, made};
 ghost use Rattle.run_request.specs.Fetch.{Tells, FaultsBy, BlamesFile};
 
@@ -18,7 +18,7 @@ pub fn fetch_file<S: Store>(alloc: Global, store: &mut S, name: &str) -> Result<
     requires short { length name.now ≤ 255 }
     ensures told { IfSome (S.held store.old) (λ files. Tells result (content_of (files name.now))) }
     ensures stays { S.held store.new ≡ S.held store.old }
-    ensures small { IfOk result (λ content. length content ≤ 33554432) }
+    ensures small { IfOk result (λ content. length content ≤ file_limit) }
     ensures blame { BlamesFile result }
     ensures cause { FaultsBy (S.faults store.old) (S.faults store.new) (S.failed_last store.new) name.now result }
 {

@@ -6,7 +6,7 @@ mod open;
 mod request;
 
 pub use fetch::fetch_file;
-pub use open::{Opened, open_run};
+pub use open::{Opened, no_script, open_run, refused};
 pub use request::request_run;
 
 #[cfg(test)]

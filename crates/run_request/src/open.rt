@@ -1,6 +1,7 @@
 // The run of a system file.
 ghost use Rattle.std.specs.Prelude.{◌≡◌, ◌≢◌, ◌≤◌, [], length, IfSome, Some};
-ghost use Rattle.run_files.specs.Files.{IsAccepted, IsName, sides_in};
+ghost use Rattle.outside_io.specs.Names.{IsName};
+ghost use Rattle.run_files.specs.Files.{IsAccepted};
 ghost use Rattle.run_files.specs.Line.{refusal_text};
 ghost use Rattle.run_files.specs.Verdict.{system_verdict, image_verdict, script_verdict};
 ghost use Rattle.run_request.specs.Open.{IfRun, IfRefused, Refuses, IsReady, NamesFile, NamesImage, OpenCause, refused_by};
@@ -120,8 +121,8 @@ fn open_behind_image<S: Store>(
     }
 }
 
-// A script without events.
-fn no_script(alloc: Global) -> Script
+/// A script without events.
+pub fn no_script(alloc: Global) -> Script
     ensures { result.events ≡ [] }
 {
     Script {
