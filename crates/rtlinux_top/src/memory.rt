@@ -7,8 +7,8 @@ use outside_io::NoMemory;
 use run_memory::{Sides, store_stub};
 use std::alloc::Global;
 
-/// How many bytes each side has.
-const SIDE_SIZE: u32 = 65_536;
+/// How many bytes each side has, and so the most bytes of an image that is run flat.
+pub const SIDE_SIZE: u32 = 65_536;
 
 // Writes bytes over the front of others.
 fn write_front(part: &mut [u8], bytes: &[u8])

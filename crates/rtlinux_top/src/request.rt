@@ -1,5 +1,5 @@
 // What the words and the files come to, before anything runs.
-ghost use Rattle.std.specs.Prelude.{◌≡◌, ◌≢◌, ◌≤◌, [], false, length, IfSome, Ok, Err};
+ghost use Rattle.std.specs.Prelude.{◌≡◌, ◌≢◌, ◌≤◌, false, length, IfSome, Ok, Err};
 ghost use Rattle.outside_io.specs.Memory.{same_bytes};
 ghost use Rattle.run_files.specs.Line.{refusal_text};
 ghost use Rattle.run_files.specs.Verdict.{made, named};
@@ -9,33 +9,13 @@ ghost use Rattle.rtlinux_top.specs.Words.{asked_of, flat_asked, texts, Unknown};
 ghost use Rattle.rtlinux_top.specs.Verdict.{verdict_of, flat_in, shows_both};
 ghost use Rattle.rtlinux_top.specs.Causes.{HasTicks, RefusesTicks, RefusedEarly, NamesFileOf};
 
-use crate::memory::flat_sides;
+use crate::memory::{SIDE_SIZE, flat_sides};
 use command_words::{is_name, is_number, read_ticks};
-use device_script::{Events, Script};
 use line_text::LineText;
 use outside_io::Store;
-use run_files::{AcceptedRun, Cause, Refusal, refusal_line};
-use run_request::{Opened, fetch_file, request_run};
+use run_files::{AcceptedRun, Cause, Refusal};
+use run_request::{Opened, fetch_file, no_script, refused, request_run};
 use std::alloc::Global;
-
-/// The most bytes of an image that is run flat.
-const FLAT_LIMIT: usize = 65_536;
-
-fn refused(cause: Cause, word: &[u8]) -> Opened
-    requires { length word.now ≤ 255 }
-    ensures { result ≡ Opened.Refused cause (refusal_text cause word.now) }
-{
-    Opened::Refused(cause, refusal_line(cause, word))
-}
-
-// A script without events.
-fn no_script(alloc: Global) -> Script
-    ensures { result.events ≡ [] }
-{
-    Script {
-        events: Events::new(Vec::new(alloc)),
-    }
-}
 
 // The run of a flat image of these bytes.
 fn accept_flat(alloc: Global, image: &[u8], name: &[u8], ticks: u32) -> Opened
@@ -44,7 +24,7 @@ fn accept_flat(alloc: Global, image: &[u8], name: &[u8], ticks: u32) -> Opened
     ensures refused { IfRefused result (λ why line. (flat_in ticks image.now ≡ Err why) × (line ≡ refusal_text why name.now) × (why ≡ Cause.Outside)) }
     ensures ready { IfRun result IsReady }
 {
-    if image.len() > FLAT_LIMIT {
+    if image.len() > SIDE_SIZE as usize {
         return refused(Cause::Outside, name);
     }
     match flat_sides(alloc, image) {
