@@ -121,3 +121,11 @@ pub enum HLine {
     /// the one-shot was set to this count
     Set(u32),
 }
+
+/// A line of a run: one of the real-time half (`R`), of the guest's half (`G`) or of the hardware (`H`).
+#[derive(Clone, Copy, Debug)]
+pub enum Line {
+    R(RLine),
+    G(GLine),
+    H(HLine),
+}

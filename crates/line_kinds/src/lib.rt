@@ -4,5 +4,5 @@
 mod kinds;
 mod said;
 
-pub use kinds::{BreachKind, FaultKind, GLine, HLine, Mode, RLine, Who};
+pub use kinds::{BreachKind, FaultKind, GLine, HLine, Line, Mode, RLine, Who};
 pub use said::Said;

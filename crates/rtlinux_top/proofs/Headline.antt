@@ -19,8 +19,9 @@ use Rattle.run_files.specs.Files.{system_in, sides_in}
 use Rattle.system_file.specs.declared.system.System.{System as SystemFile}
 use Rattle.line_kinds.specs.declared.kinds.GLine.{GLine}
 use Rattle.line_kinds.specs.declared.kinds.GLine.TheVariants.{Memory}
+use Rattle.line_kinds.specs.declared.kinds.Line.{Line}
+use Rattle.line_kinds.specs.declared.kinds.Line.TheVariants.{G}
 use Rattle.run_lines.specs.Ticks.{stamped, lines_to}
-use Rattle.run_output.specs.Merge.{AnyLine, G}
 use Rattle.side_digest.specs.Digest.{digest}
 use Rattle.bare_machine.specs.Run.{end_line}
 use Rattle.run_stream.specs.Lines.{text_of, guest_lines, bare_at, shown_at, shown_to, run_shown}
@@ -100,7 +101,7 @@ but_last xs a b =
 
 shows_alone : (run : AcceptedRun) → run_shown false run ≡ guest_alone (guest_shown run)
 shows_alone run =
-    let f : ℕ × GLine → ℕ × AnyLine = λ line. (line.0, G line.1) in
+    let f : ℕ × GLine → ℕ × Line = λ line. (line.0, G line.1) in
     let front = lines_to (guest_lines run) run.ticks in
     let end : ℕ × GLine = (run.ticks, end_line (bare_at run run.ticks)) in
     let memory : ℕ × GLine = (run.ticks, Memory (digest (bare_at run run.ticks).side.bytes)) in

@@ -3,11 +3,13 @@ use Rattle.std.proofs.Common.{◌≡◌, ◌≤◌, ℕ, zero, suc, refl, sym, a
 use Rattle.memory_model.specs.Side.{Side}
 use Rattle.device_script.specs.declared.event.Event.{Event}
 use Rattle.line_kinds.specs.declared.kinds.GLine.{GLine}
+use Rattle.line_kinds.specs.declared.kinds.Line.{Line}
+use Rattle.line_kinds.specs.declared.kinds.Line.TheVariants.{R, G}
 use Rattle.line_kinds.specs.declared.kinds.RLine.{RLine}
 use Rattle.run_lines.proofs.AtTick.{lines_to-same}
 use Rattle.run_lines.specs.Calls.{calls_of}
 use Rattle.run_lines.specs.Ticks.{at_tick, stamped, lines_to}
-use Rattle.run_output.specs.Merge.{AnyLine, R, G, tick_lines}
+use Rattle.run_output.specs.Merge.{tick_lines}
 use Rattle.run_output.specs.Output.{run_output}
 use Rattle.hardware_lines.specs.Hardware.{hardware_lines}
 use Rattle.bare_machine.specs.State.{Bare}
@@ -69,8 +71,8 @@ shows_output run =
     let r = real_shown run in
     let d = run.sides.memory.real_time in
     let ends = λ (m : RealTime) (x : Bare). stamped n (map R (real_end m) ++ map G (bare_end x)) in
-    let both : ℕ → List AnyLine = λ k. tick_lines false (real_lines start script [] k) (hardware_lines guest start script r [] k) (bare_lines guest script r k) in
-    let lines : List (ℕ × AnyLine) = lines_to both n in
+    let both : ℕ → List Line = λ k. tick_lines false (real_lines start script [] k) (hardware_lines guest start script r [] k) (bare_lines guest script r k) in
+    let lines : List (ℕ × Line) = lines_to both n in
     let same : lines_to (shown_at true run) n ≡ lines = lines_to-same (shown_at true run) both n (λ k _.
     sym (ap (λ (ls : List RLine). tick_lines false ls [] (bare_lines guest script r k)) (real_lines_are start.side script k)
     ∙ ap (λ (ls : List GLine). tick_lines false (at_tick (suc k) guest_on) [] ls) (lines_same guest script guest_on n d k))) in

@@ -2,10 +2,11 @@
 use Rattle.std.specs.Prelude.{◌≡◌, ◌≤◌, ◌-◌, ℕ, Bool, false, true, List, [], ◌++◌, length, map, take, if◌then◌else◌, Option, Ok, Err}
 use Rattle.outside_io.specs.Sink.{appended}
 use Rattle.line_kinds.specs.declared.kinds.GLine.{GLine}
+use Rattle.line_kinds.specs.declared.kinds.Line.{Line}
+use Rattle.line_kinds.specs.declared.kinds.Line.TheVariants.{G}
 use Rattle.line_kinds.specs.declared.kinds.RLine.{RLine}
 use Rattle.run_lines.specs.Calls.{calls_of}
 use Rattle.run_lines.specs.Ticks.{stamped, lines_to}
-use Rattle.run_output.specs.Merge.{AnyLine, G}
 use Rattle.run_output.specs.Output.{run_output}
 use Rattle.bare_machine.specs.Run.{bare, bare_end}
 use Rattle.priority_schedule.specs.State.{RealTimeStart}
@@ -52,11 +53,11 @@ ShowsOutput =
     → run_shown true run ≡ run_output false (guest_start run) (quiet_start run) run.script.events run.ticks (real_shown run) (calls_of (guest_shown run))
 
 -- the guest's lines alone, without the last one, which is the digest of its side
-abbrev pub guest_alone : List (ℕ × GLine) → List (ℕ × AnyLine)
+abbrev pub guest_alone : List (ℕ × GLine) → List (ℕ × Line)
 guest_alone lines = map (λ (line : ℕ × GLine). (line.0, G line.1)) (take (length lines - 1) lines)
 
 -- what is shown of a pair of lines: the output of both machines, or the guest's lines alone
-abbrev pub shown_of : Bool → AcceptedRun → List (ℕ × GLine) → List (ℕ × RLine) → List (ℕ × AnyLine)
+abbrev pub shown_of : Bool → AcceptedRun → List (ℕ × GLine) → List (ℕ × RLine) → List (ℕ × Line)
 shown_of both run g r =
     if both then run_output false (guest_start run) (quiet_start run) run.script.events run.ticks r (calls_of g) else guest_alone g
 

@@ -5,6 +5,7 @@ use Rattle.line_kinds.specs.declared.kinds.GLine.{GLine}
 use Rattle.line_kinds.specs.declared.kinds.GLine.TheVariants.{Halt, Com1}
 use Rattle.line_kinds.specs.declared.kinds.HLine.{HLine}
 use Rattle.line_kinds.specs.declared.kinds.HLine.TheVariants.{Ack}
+use Rattle.line_kinds.specs.declared.kinds.Line.TheVariants.{R, G, H}
 use Rattle.line_kinds.specs.declared.kinds.RLine.{RLine}
 use Rattle.line_kinds.specs.declared.kinds.RLine.TheVariants.{Ret, End}
 use Rattle.run_lines.specs.Calls.{Call}
@@ -15,7 +16,7 @@ use Rattle.bare_machine.specs.State.{GuestStart}
 use Rattle.priority_schedule.specs.Run.{real_lines}
 use Rattle.priority_schedule.specs.State.{RealTimeStart}
 use Rattle.hardware_lines.specs.Hardware.{hardware_lines}
-use Rattle.run_output.specs.Merge.{AnyLine, R, H, G, tick_lines, merged, with_ends}
+use Rattle.run_output.specs.Merge.{tick_lines, merged, with_ends}
 use Rattle.run_output.specs.Output.{run_lines}
 
 real_time_first : tick_lines true (Ret ∷ []) (Ack 5 ∷ []) (Com1 65 ∷ Halt ∷ []) ≡ R Ret ∷ H (Ack 5) ∷ G (Com1 65) ∷ G Halt ∷ []

@@ -6,10 +6,11 @@ use Rattle.std.specs.Prelude.{◌||◌, map, take, flat_map, if◌then◌else◌
 use Rattle.std.specs.List.{list_any}
 use Rattle.outside_io.specs.Sink.{appended}
 use Rattle.line_kinds.specs.declared.kinds.GLine.{GLine}
+use Rattle.line_kinds.specs.declared.kinds.Line.{Line}
+use Rattle.line_kinds.specs.declared.kinds.Line.TheVariants.{R, G}
 use Rattle.line_kinds.specs.declared.kinds.RLine.{RLine}
 use Rattle.run_lines.specs.Ticks.{at_tick, stamped, lines_to, IsPrefixOf}
 use Rattle.run_lines.proofs.Longer.{longer}
-use Rattle.run_output.specs.Merge.{AnyLine, R, G}
 use Rattle.run_files.specs.declared.run.AcceptedRun.{AcceptedRun}
 use Rattle.bare_machine.specs.State.{Bare}
 use Rattle.bare_machine.specs.Run.{bare_end}
@@ -19,7 +20,7 @@ use Rattle.run_stream.specs.Ran.{HasRunTo}
 use Rattle.run_stream.specs.Lines.{guest_on, guest_lines, shown, ends_shown, shown_at, shown_to, run_shown, bare_at, text_of, tick_text, piece_of, has_breach, shows_breach, is_breach}
 use Rattle.run_stream.proofs.Written.{appended_twice, appended_nothing}
 
-pub text-stamped : (t : ℕ) (lines : List AnyLine) → text_of (stamped t lines) ≡ tick_text t lines
+pub text-stamped : (t : ℕ) (lines : List Line) → text_of (stamped t lines) ≡ tick_text t lines
 text-stamped t [] = refl
 text-stamped t (line ∷ lines) = ap (λ (xs : List ℕ). piece_of (t, line) ++ xs) (text-stamped t lines)
 
@@ -33,26 +34,26 @@ pub shown_same : (both : Bool) (run : AcceptedRun) (t : ℕ) (r : List RLine) (g
 unfolding shown_at
 shown_same both run t r g real guest = rw (real, guest) refl
 
-pub told_next : (old mid new : Option (List ℕ)) (both : Bool) (run : AcceptedRun) (t : ℕ) (said : List AnyLine) → said ≡ shown_at both run t → mid ≡ appended old (text_of (shown_to both run t)) → new ≡ appended mid (tick_text (t + 1) said) → new ≡ appended old (text_of (shown_to both run (t + 1)))
+pub told_next : (old mid new : Option (List ℕ)) (both : Bool) (run : AcceptedRun) (t : ℕ) (said : List Line) → said ≡ shown_at both run t → mid ≡ appended old (text_of (shown_to both run t)) → new ≡ appended mid (tick_text (t + 1) said) → new ≡ appended old (text_of (shown_to both run (t + 1)))
 told_next old mid new both run t said same before after =
     after ∙ ap (λ w. appended w (tick_text (t + 1) said)) before ∙ appended_twice old (text_of (shown_to both run t)) (tick_text (t + 1) said)
-    ∙ ap (λ (ls : List AnyLine). appended old (text_of (shown_to both run t) ++ tick_text (t + 1) ls)) same ∙ ap (appended old) (sym (text_next both run t))
+    ∙ ap (λ (ls : List Line). appended old (text_of (shown_to both run t) ++ tick_text (t + 1) ls)) same ∙ ap (appended old) (sym (text_next both run t))
 
 -- the end lines of a run
-abbrev pub ends_of : Bool → AcceptedRun → ℕ → List AnyLine
+abbrev pub ends_of : Bool → AcceptedRun → ℕ → List Line
 ends_of both run n = ends_shown both run.sides.memory.real_time (bare_at run n)
 
 -- the text of a run around one tick
-pub whole_at : (both : Bool) (run : AcceptedRun) (t : ℕ) (said : List AnyLine) → t < run.ticks → said ≡ shown_at both run t → (rest : List ℕ) × (text_of (run_shown both run) ≡ text_of (shown_to both run t) ++ (tick_text (t + 1) said ++ rest))
+pub whole_at : (both : Bool) (run : AcceptedRun) (t : ℕ) (said : List Line) → t < run.ticks → said ≡ shown_at both run t → (rest : List ℕ) × (text_of (run_shown both run) ≡ text_of (shown_to both run t) ++ (tick_text (t + 1) said ++ rest))
 whole_at both run t said below same =
     let n : ℕ = run.ticks in
     let m : ℕ = n - (t + 1) in
     let long : (t + 1) + m ≡ n = omega arith in
     let go : IsPrefixOf (shown_to both run (t + 1)) (shown_to both run ((t + 1) + m)) = longer (shown_at both run) (t + 1) m in
-    let last : List (ℕ × AnyLine) = stamped n (ends_of both run n) in
+    let last : List (ℕ × Line) = stamped n (ends_of both run n) in
     let mine : List ℕ = tick_text (t + 1) said in
     let step : text_of (shown_to both run (t + 1)) ≡ text_of (shown_to both run t) ++ mine
-    = text_next both run t ∙ ap (λ (ls : List AnyLine). text_of (shown_to both run t) ++ tick_text (t + 1) ls) (sym same) in
+    = text_next both run t ∙ ap (λ (ls : List Line). text_of (shown_to both run t) ++ tick_text (t + 1) ls) (sym same) in
     let upto : text_of (shown_to both run n) ≡ (text_of (shown_to both run t) ++ mine) ++ text_of go.0
     = ap (λ (k : ℕ). text_of (shown_to both run k)) (sym long) ∙ ap text_of (sym go.1) ∙ flat_map-append piece_of (shown_to both run (t + 1)) go.0 ∙ ap (λ xs. xs ++ text_of go.0) step in (
       text_of go.0 ++ text_of last,
@@ -61,19 +62,19 @@ whole_at both run t said below same =
     )
 
 -- the text of a run before its end lines
-pub whole_end : (both : Bool) (run : AcceptedRun) (t : ℕ) (said : List AnyLine) → t ≡ run.ticks → said ≡ ends_of both run t → text_of (run_shown both run) ≡ text_of (shown_to both run t) ++ tick_text run.ticks said
+pub whole_end : (both : Bool) (run : AcceptedRun) (t : ℕ) (said : List Line) → t ≡ run.ticks → said ≡ ends_of both run t → text_of (run_shown both run) ≡ text_of (shown_to both run t) ++ tick_text run.ticks said
 whole_end both run t said done told =
     let n : ℕ = run.ticks in
     flat_map-append piece_of (shown_to both run n) (stamped n (ends_of both run n))
     ∙ ap (λ (xs : List ℕ). text_of (shown_to both run n) ++ xs) (text-stamped n (ends_of both run n))
     ∙ ap (λ (s : ℕ). text_of (shown_to both run s) ++ tick_text n (ends_of both run s)) (sym done)
-    ∙ ap (λ (ls : List AnyLine). text_of (shown_to both run t) ++ tick_text n ls) (sym told)
+    ∙ ap (λ (ls : List Line). text_of (shown_to both run t) ++ tick_text n ls) (sym told)
 
 -- whether a breach is among the lines
-any-append : (xs ys : List (ℕ × AnyLine)) → has_breach (xs ++ ys) ≡ (has_breach xs || has_breach ys)
-any-append xs ys = list_any-append (λ (line : ℕ × AnyLine). shows_breach line.1) xs ys
+any-append : (xs ys : List (ℕ × Line)) → has_breach (xs ++ ys) ≡ (has_breach xs || has_breach ys)
+any-append xs ys = list_any-append (λ (line : ℕ × Line). shows_breach line.1) xs ys
 
-breach-stamped : (t : ℕ) (lines : List AnyLine) → has_breach (stamped t lines) ≡ list_any shows_breach lines
+breach-stamped : (t : ℕ) (lines : List Line) → has_breach (stamped t lines) ≡ list_any shows_breach lines
 breach-stamped t [] = refl
 breach-stamped t (line ∷ lines) = ap (λ (b : Bool). shows_breach line || b) (breach-stamped t lines)
 
@@ -81,7 +82,7 @@ breach-guest : (lines : List GLine) → list_any shows_breach (map G lines) ≡ 
 breach-guest [] = refl
 breach-guest (line ∷ lines) = ap (λ (b : Bool). is_breach line || b) (breach-guest lines)
 
-breach-real : (lines : List RLine) (others : List AnyLine) → list_any shows_breach (map R lines ++ others) ≡ list_any shows_breach others
+breach-real : (lines : List RLine) (others : List Line) → list_any shows_breach (map R lines ++ others) ≡ list_any shows_breach others
 breach-real [] others = refl
 breach-real (line ∷ lines) others = breach-real lines others
 
@@ -118,7 +119,7 @@ unfolding lines_to
 nothing_said both run = refl
 
 pub told_first : (old : Option (List ℕ)) (both : Bool) (run : AcceptedRun) → old ≡ appended old (text_of (shown_to both run 0))
-told_first old both run = appended_nothing old ∙ ap (λ (lines : List (ℕ × AnyLine)). appended old (text_of lines)) (sym (nothing_said both run))
+told_first old both run = appended_nothing old ∙ ap (λ (lines : List (ℕ × Line)). appended old (text_of lines)) (sym (nothing_said both run))
 
 pub breach_first : (both : Bool) (run : AcceptedRun) → false ≡ has_breach (shown_to both run 0)
 breach_first both run = ap has_breach (sym (nothing_said both run))
@@ -146,7 +147,7 @@ ends_same true run t m r g ran real guest =
     λ i. map R (real_end i) ++ map G (guest_end i)
 ends_same false run t m r g ran real guest = ap (λ lines. map G (take 1 lines)) (guest ∙ ap bare_end ran.bare)
 
-pub told_end : (old mid new : Option (List ℕ)) (both : Bool) (run : AcceptedRun) (t : ℕ) (ends : List AnyLine) → t ≡ run.ticks → ends ≡ ends_of both run t
+pub told_end : (old mid new : Option (List ℕ)) (both : Bool) (run : AcceptedRun) (t : ℕ) (ends : List Line) → t ≡ run.ticks → ends ≡ ends_of both run t
     → mid ≡ appended old (text_of (shown_to both run t)) → new ≡ appended mid (tick_text run.ticks ends) → new ≡ appended old (text_of (run_shown both run))
 told_end old mid new both run t ends done same before after =
     after ∙ ap (λ w. appended w (tick_text run.ticks ends)) before ∙ appended_twice old (text_of (shown_to both run t)) (tick_text run.ticks ends)

@@ -1,7 +1,7 @@
 // Lines into the sink.
 ghost use Rattle.std.specs.Prelude.{◌≡◌, ◌++◌, map, flat_map, take, if◌then◌else◌};
 ghost use Rattle.outside_io.specs.Sink.{Puts};
-ghost use Rattle.run_output.specs.Merge.{R, G};
+ghost use Rattle.line_kinds.specs.declared.kinds.Line.TheVariants.{R, G};
 ghost use Rattle.run_stream.specs.Lines.{tick_text, piece_of, shown};
 
 use line_text::LineText;
@@ -10,7 +10,6 @@ use rt_core::EndLines;
 use trace_lines::{GLine, Lines, RLine, write_g, write_r};
 
 // A G line with its end.
-#[tactic(auto, unfolding(crate::specs::Lines::any_text))]
 fn guest_piece(tick: u32, line: &GLine) -> LineText
     ensures { result ≡ piece_of (tick, G line.now) }
 {
@@ -21,7 +20,6 @@ fn guest_piece(tick: u32, line: &GLine) -> LineText
 }
 
 // An R line with its end.
-#[tactic(auto, unfolding(crate::specs::Lines::any_text))]
 fn real_time_piece(tick: u32, line: &RLine) -> LineText
     ensures { result ≡ piece_of (tick, R line.now) }
 {

@@ -6,7 +6,7 @@ use Rattle.line_kinds.specs.declared.kinds.HLine.TheVariants.{Edge, Ack, Set}
 use Rattle.line_kinds.specs.declared.kinds.RLine.TheVariants.{On}
 use Rattle.line_kinds.specs.declared.kinds.Who.TheVariants.{Guest}
 use Rattle.hardware_lines.specs.Hardware.{first_hardware, with_set}
-use Rattle.run_output.specs.Merge.{R, H, G}
+use Rattle.line_kinds.specs.declared.kinds.Line.TheVariants.{R, G, H}
 use Rattle.schedule_rows.specs.Machines.{module_of, no_module, h_of, output_of}
 use Rattle.schedule_rows.specs.Programs.{idle, timer_guest, pending_guest, periodic_module, long_module, nearer_module, arrival_module, owner_module}
 

@@ -3,6 +3,7 @@ use Rattle.std.specs.Prelude.{ℕ, ◌+◌, ◌-◌, ◌*◌, ◌==◌, nat_lt, 
 use Rattle.device_script.specs.declared.event.Event.{Event}
 use Rattle.line_kinds.specs.declared.kinds.GLine.{GLine}
 use Rattle.line_kinds.specs.declared.kinds.HLine.{HLine}
+use Rattle.line_kinds.specs.declared.kinds.Line.{Line}
 use Rattle.line_kinds.specs.declared.kinds.RLine.{RLine}
 use Rattle.run_lines.specs.Calls.{calls_of}
 use Rattle.run_lines.specs.Ticks.{lines_to}
@@ -10,7 +11,6 @@ use Rattle.bare_machine.specs.Run.{end_line}
 use Rattle.bare_machine.specs.State.{GuestStart, all_services}
 use Rattle.priority_schedule.specs.State.{RealTimeStart}
 use Rattle.hardware_lines.specs.Hardware.{hardware}
-use Rattle.run_output.specs.Merge.{AnyLine}
 use Rattle.run_output.specs.Output.{run_lines}
 use Rattle.schedule_laws.specs.Both.{both_after, both_r, both_g, all_g, all_r}
 
@@ -57,7 +57,7 @@ abbrev pub h_of : GuestStart → RealTimeStart → List (ℕ × Event) → ℕ �
 h_of guest start script n = hardware guest start script n (all_r guest start script n) (calls_of (all_g guest start script n))
 
 -- all of them in one order
-abbrev pub output_of : GuestStart → RealTimeStart → List (ℕ × Event) → ℕ → List (ℕ × AnyLine)
+abbrev pub output_of : GuestStart → RealTimeStart → List (ℕ × Event) → ℕ → List (ℕ × Line)
 output_of guest start script n = run_lines true guest start script (all_r guest start script n) (calls_of (all_g guest start script n)) n
 
 -- the guest's first end line after n ticks

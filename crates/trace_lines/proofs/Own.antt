@@ -3,8 +3,8 @@ use Rattle.std.proofs.Common.{◌≡◌, ℕ, ◌^◌, ◌<◌, Bool, true, fals
 use Rattle.std.specs.Prelude.{option_map, ◌≢◌, ◌↔◌, IfNone, bytes_eq}
 use Rattle.std.proofs.lemmas.Option.{some_pair_parts}
 use Rattle.std.proofs.lemmas.Slice.Eq.{bytes_eq-Decides}
-use Rattle.trace_lines.specs.declared.read.Line.{Line}
-use Rattle.trace_lines.specs.declared.read.Line.TheVariants.{R, G, H}
+use Rattle.line_kinds.specs.declared.kinds.Line.{Line}
+use Rattle.line_kinds.specs.declared.kinds.Line.TheVariants.{R, G, H}
 use Rattle.trace_lines.specs.Fits.{IsLine}
 use Rattle.trace_lines.specs.Reading.{kind_in, words_read, own_text, line_in}
 use Rattle.trace_lines.specs.Text.{line_text, r_words, g_words, h_words}

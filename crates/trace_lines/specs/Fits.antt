@@ -13,8 +13,8 @@ use Rattle.line_kinds.specs.declared.kinds.GLine.{GLine}
 use Rattle.line_kinds.specs.declared.kinds.GLine.TheVariants as g
 use Rattle.line_kinds.specs.declared.kinds.HLine.{HLine}
 use Rattle.line_kinds.specs.declared.kinds.HLine.TheVariants.{Edge, Ack, Set}
-use Rattle.trace_lines.specs.declared.read.Line.{Line}
-use Rattle.trace_lines.specs.declared.read.Line.TheVariants.{R, G, H}
+use Rattle.line_kinds.specs.declared.kinds.Line.{Line}
+use Rattle.line_kinds.specs.declared.kinds.Line.TheVariants.{R, G, H}
 
 -- up to 256 bytes
 pub record AreSaid (bytes : List ℕ) : Type 0 where

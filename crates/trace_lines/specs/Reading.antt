@@ -6,8 +6,8 @@ use Rattle.line_kinds.specs.declared.kinds.GLine.{GLine}
 use Rattle.line_kinds.specs.declared.kinds.GLine.TheVariants as g
 use Rattle.line_kinds.specs.declared.kinds.HLine.{HLine}
 use Rattle.line_kinds.specs.declared.kinds.HLine.TheVariants.{Edge, Ack, Set}
-use Rattle.trace_lines.specs.declared.read.Line.{Line}
-use Rattle.trace_lines.specs.declared.read.Line.TheVariants.{R, G, H}
+use Rattle.line_kinds.specs.declared.kinds.Line.{Line}
+use Rattle.line_kinds.specs.declared.kinds.Line.TheVariants.{R, G, H}
 use Rattle.trace_lines.specs.Text.{line_text}
 use Rattle.trace_lines.specs.Words.{◌>>=◌, word_of, rest_of, number_in, byte_in, signed_in, bytes_in, digest_in, words_in, after_four, who_in, after_who, fault_in, mode_in, breach_in}
 

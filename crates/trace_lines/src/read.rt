@@ -1,7 +1,7 @@
 // Lines read back from their texts.
 ghost use Rattle.std.specs.Prelude.{◌≡◌, ◌≢◌, ◌<◌, ◌^◌, ◌↔◌, ℕ, List, bytes_eq, IfSome, IfNone};
 ghost use Rattle.trace_lines.specs.Fits.{IsGLine, IsHLine, IsLine, IsRLine};
-ghost use Rattle.trace_lines.specs.declared.read.Line.{Line};
+ghost use Rattle.line_kinds.specs.declared.kinds.Line.{Line};
 ghost use Rattle.trace_lines.specs.Text.{line_text};
 ghost use Rattle.trace_lines.specs.Reading.{gate_in, fault_line_in, reply_in, r_end_in, r_line_in, put_in, get_in, g_end_in, breach_line_in, g_line_in, h_line_in, kind_in, words_read, line_in};
 
@@ -9,16 +9,8 @@ use crate::words::{
     behind_four, behind_who, breach, byte, bytes, cut, digest, fault_kind, four_words, mode,
     number, signed, ten_words, who,
 };
-use crate::{GLine, HLine, RLine, write_g, write_h, write_r};
+use crate::{GLine, HLine, Line, RLine, write_g, write_h, write_r};
 use line_text::LineText;
-
-/// A line of any letter.
-#[derive(Clone, Copy, Debug)]
-pub enum Line {
-    R(RLine),
-    G(GLine),
-    H(HLine),
-}
 
 #[tactic(auto, unfolding(crate::specs::Reading::gate_in))]
 fn gate(text: &[u8]) -> Option<RLine>

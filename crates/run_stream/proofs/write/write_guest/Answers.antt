@@ -1,6 +1,6 @@
 use Rattle.std.proofs.Common.{arith, ◌∙◌, ap}
 use Rattle.line_kinds.specs.declared.kinds.GLine.{GLine}
-use Rattle.run_output.specs.Merge.{G}
+use Rattle.line_kinds.specs.declared.kinds.Line.TheVariants.{G}
 use Rattle.run_stream.specs.Lines.{piece_of}
 use Rattle.run_stream.proofs.Written.{fault_in}
 use Rattle.run_stream.proofs.write.write_guest.Goals as goal

@@ -1,7 +1,7 @@
 use Rattle.std.proofs.Common.{◌≡◌, take}
 use Rattle.std.specs.Prelude.{flat_map}
 use Rattle.outside_io.specs.Sink.{appended}
-use Rattle.run_output.specs.Merge.{G}
+use Rattle.line_kinds.specs.declared.kinds.Line.TheVariants.{G}
 use Rattle.run_stream.specs.Lines.{piece_of}
 use Rattle.run_stream.proofs.write.write_guest.Given as goal
 

@@ -1,6 +1,6 @@
 use Rattle.std.proofs.Common.{arith, ◌∙◌, ap}
 use Rattle.line_kinds.specs.declared.kinds.RLine.{RLine}
-use Rattle.run_output.specs.Merge.{R}
+use Rattle.line_kinds.specs.declared.kinds.Line.TheVariants.{R}
 use Rattle.run_stream.specs.Lines.{piece_of}
 use Rattle.run_stream.proofs.Written.{fault_in}
 use Rattle.run_stream.proofs.write.write_real_time.Goals as goal

@@ -1,7 +1,7 @@
 use Rattle.std.proofs.Common.{◌≡◌, take}
 use Rattle.std.specs.Prelude.{flat_map}
 use Rattle.outside_io.specs.Sink.{appended}
-use Rattle.run_output.specs.Merge.{R}
+use Rattle.line_kinds.specs.declared.kinds.Line.TheVariants.{R}
 use Rattle.run_stream.specs.Lines.{piece_of}
 use Rattle.run_stream.proofs.write.write_real_time.Given as goal
 
