@@ -26,7 +26,7 @@ impl Model for Said {
 }
 
 // Bytes with zeros behind them.
-#[tactic(auto, using(crate::specs::Padding::zeros_left))]
+#[tactic(auto, using(crate::proofs::Padding::zeros_left))]
 fn with_zeros(bytes: &[u8]) -> [u8; 256]
     requires { length bytes.now ≤ 256 }
     ensures { result ≡ bytes.now ++ replicate (256 - length bytes.now) 0 }
