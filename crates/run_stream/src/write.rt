@@ -68,6 +68,17 @@ fn write_both<K: Sink>(
     }
 }
 
+// Writes the lines of both halves, or the guest's alone.
+fn write_lines<K: Sink>(sink: &mut K, tick: u32, both: bool, lines: &Lines) -> Result<(), SinkFault>
+    ensures { Puts (K.written sink.old) (K.written sink.new) (K.faults sink.old) (K.faults sink.new) (tick_text tick (shown both lines.now.r lines.now.g)) result }
+{
+    if both {
+        write_both(sink, tick, lines.r(), lines.g())
+    } else {
+        write_guest(sink, tick, lines.g())
+    }
+}
+
 /// Writes the lines of a tick, each with one put: those of both halves, or the guest's alone. A fault ends it.
 pub fn write_tick<K: Sink>(
     sink: &mut K,
@@ -77,11 +88,11 @@ pub fn write_tick<K: Sink>(
 ) -> Result<(), SinkFault>
     ensures { Puts (K.written sink.old) (K.written sink.new) (K.faults sink.old) (K.faults sink.new) (tick_text tick (shown both lines.now.r lines.now.g)) result }
 {
-    if both {
-        write_both(sink, tick, lines.r(), lines.g())
-    } else {
-        write_guest(sink, tick, lines.g())
+    // most ticks have no line
+    if lines.r().is_empty() && lines.g().is_empty() {
+        return Ok(());
     }
+    write_lines(sink, tick, both, lines)
 }
 
 /// Writes the end lines, each with one put: both of each half, or the guest's first one alone. A fault ends it.
