@@ -1,8 +1,8 @@
 // The words behind `run`.
-ghost use Rattle.std.specs.Prelude.{◌≡◌, map, string_bytes, IfOk, IsTrue};
+ghost use Rattle.std.specs.Prelude.{map, string_bytes, IfOk, IsTrue};
 ghost use Rattle.command_words.specs.Parse.{Parses};
 ghost use Rattle.command_words.specs.Values.{is_name as name_test, is_number as number_test};
-ghost use Rattle.command_words.specs.Run.{run_words_of, asked_by, Answers, Reads};
+ghost use Rattle.command_words.specs.Run.{run_words_of, Answers, Reads};
 
 use crate::command::run_command;
 use crate::values::{is_name, is_number};

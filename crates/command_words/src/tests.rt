@@ -16,29 +16,17 @@ fn reading(alloc: Global, words: &[&str]) -> Result<Result<bool, WordsRefusal>, 
     Ok(read_run_words(alloc, &list).map(|said| said == usual))
 }
 
+// Which words are taken is a law of this crate (`reads_usual_words`, `refuses_other_words`): here each answer is given once, and
+// what no row of these laws has.
 #[test]
-fn words_behind_run(rt: HostRuntime) -> Result<(), Fail> {
+fn a_system_and_ticks_are_taken_and_other_words_are_usage(rt: HostRuntime) -> Result<(), Fail> {
     let alloc = rt.alloc();
-    let taken: [&[&str]; 4] = [
-        &["s.toml", "--ticks", "13"],
-        &["--ticks", "13", "s.toml"],
-        &["s.toml", "--ticks=13"],
-        &["--ticks", "13", "--", "s.toml"],
-    ];
-    for words in taken {
-        assert_eq!(rt; reading(alloc, words)?, Ok(true), "{words:?}");
-    }
-    let refused: [&[&str]; 10] = [
-        &[],
+    let taken = ["s.toml", "--ticks", "13"];
+    assert_eq!(rt; reading(alloc, &taken)?, Ok(true));
+    let refused: [&[&str]; 3] = [
         &["s.toml"],
-        &["s.toml", "--ticks"],
-        &["s.toml", "--ticks", "five"],
         &["s.toml", "--ticks", "123456789012345678901"],
         &["s.toml", "--ticks", "13", "--hardware"],
-        &["s.toml", "t.toml", "--ticks", "13"],
-        &["s.toml", "--ticks", "13", "--ticks", "13"],
-        &["", "--ticks", "13"],
-        &["--help"],
     ];
     for words in refused {
         assert_eq!(rt;

@@ -1,10 +1,8 @@
 // The names and the numbers among the words.
-ghost use Rattle.std.specs.Prelude.{◌≡◌, length};
-ghost use Rattle.std.specs.List.{list_all};
-ghost use Rattle.std.specs.Char.{is_ascii_digit};
+ghost use Rattle.std.specs.Prelude.{◌≡◌};
 ghost use Rattle.command_words.specs.Values.{is_name as name_test, is_number as number_test, ticks_of};
 
-use line_text::read_decimal;
+use line_text::{are_digits, read_decimal};
 
 /// The longest name, in bytes.
 const NAME_SIZE: usize = 255;
@@ -27,12 +25,6 @@ pub fn is_number(text: &[u8]) -> bool
     ensures { result ≡ number_test text.now }
 {
     1 <= text.len() && text.len() <= NUMBER_SIZE && are_digits(text)
-}
-
-fn are_digits(text: &[u8]) -> bool
-    ensures { result ≡ list_all is_ascii_digit text.now }
-{
-    text.iter().all(|c| c.is_ascii_digit())
 }
 
 /// The ticks that a number says, where they are 1 to 1,000,000,000.

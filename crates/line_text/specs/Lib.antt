@@ -1,2 +1,3 @@
+pub mod Cut
 pub mod LineText
 pub mod Numbers

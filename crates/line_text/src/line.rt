@@ -15,7 +15,7 @@ const CAPACITY: usize = 640;
 /// A push appends its text where that fits, and else changes nothing and answers false.
 #[derive(Drop)]
 pub struct LineText {
-    bytes: [u8; 640],
+    bytes: [u8; CAPACITY],
     len: usize,
 }
 
@@ -35,7 +35,7 @@ impl LineText {
         ensures { result ≡ [] }
     {
         LineText {
-            bytes: [0; 640],
+            bytes: [0; CAPACITY],
             len: 0,
         }
     }
@@ -76,7 +76,7 @@ impl LineText {
         self.push_text(buffer.format(n).as_bytes())
     }
 
-    /// Appends the low 2, 4 or 8 hexadecimal digits of a number, in lower case.
+    /// Appends the 2, 4 or 8 hexadecimal digits of a number, in lower case.
     pub fn push_hex(&mut self, n: u32, digits: u8) -> bool
         requires digits { (digits ≡ 2) ⊎ (digits ≡ 4) ⊎ (digits ≡ 8) }
         requires fits { n < 16 ^ digits }

@@ -1,10 +1,19 @@
 // Numbers that are read from a text.
-ghost use Rattle.std.specs.Prelude.{◌≡◌, ◌⊎◌, ◌<◌, ◌≤◌, length, IfSome};
+ghost use Rattle.std.specs.Prelude.{◌≡◌, ◌⊎◌, ◌<◌, ◌≤◌, ◌^◌, length, IfSome};
+ghost use Rattle.std.specs.Char.{is_ascii_digit};
+ghost use Rattle.std.specs.List.{list_all};
 ghost use Rattle.hex.specs.Hex.{hex_digit_value};
 ghost use Rattle.line_text.specs.Numbers.{decimal_after, decimal_in, hex_after, hex_in};
 
 /// The longest text of a `u64` in decimal digits.
 const DECIMAL_DIGITS: usize = 20;
+
+/// Whether each byte is a decimal digit.
+pub fn are_digits(text: &[u8]) -> bool
+    ensures { result ≡ list_all is_ascii_digit text.now }
+{
+    text.iter().all(|c| c.is_ascii_digit())
+}
 
 /// The number that 1 to 20 decimal digits write; `None` exactly where the text isn't that, or the number is past `u64`.
 pub fn read_decimal(text: &[u8]) -> Option<u64>
@@ -37,7 +46,8 @@ fn decimal_digits(text: &[u8]) -> Option<u64>
 /// such digits.
 pub fn read_hex(text: &[u8], digits: u8) -> Option<u32>
     requires { (digits ≡ 2) ⊎ (digits ≡ 4) ⊎ (digits ≡ 8) }
-    ensures { result ≡ hex_in digits text.now }
+    ensures value { result ≡ hex_in digits text.now }
+    ensures fits { IfSome result (λ n. n < 16 ^ digits) }
 {
     if text.len() != digits as usize {
         return None;
@@ -47,7 +57,8 @@ pub fn read_hex(text: &[u8], digits: u8) -> Option<u32>
 
 fn hex_digits(text: &[u8]) -> Option<u32>
     requires { length text.now ≤ 8 }
-    ensures { result ≡ hex_after 0 text.now }
+    ensures value { result ≡ hex_after 0 text.now }
+    ensures fits { IfSome result (λ n. n < 16 ^ length text.now) }
 {
     let mut n = 0u32;
     for c in text {

@@ -1,5 +1,5 @@
 // Texts, and numbers that are read back.
-use crate::{LineText, read_decimal, read_hex};
+use crate::{LineText, add, add_decimal, are_digits, cut, read_decimal, read_hex};
 use std::test::Fail;
 
 #[test]
@@ -33,6 +33,38 @@ fn what_does_not_fit_changes_nothing(rt: HostRuntime) -> Result<(), Fail> {
     assert!(rt; !line.push_text(b"x"));
     assert_eq!(rt; line.as_bytes().len(), 640);
     Ok(())
+}
+
+#[test]
+fn what_surely_fits_is_added(rt: HostRuntime) -> Result<(), Fail> {
+    let mut line = LineText::new();
+    add(&mut line, b"E 30 d.txt ");
+    add_decimal(&mut line, u32::MAX);
+    assert_eq!(rt; line.as_bytes(), b"E 30 d.txt 4294967295".as_slice());
+    Ok(())
+}
+
+#[test]
+fn a_text_is_cut_at_the_first_such_byte(rt: HostRuntime) -> Result<(), Fail> {
+    assert_eq!(rt;
+        cut(b"5 line 5", b' '),
+        (b"5".as_slice(), b"line 5".as_slice())
+    );
+    assert_eq!(rt; cut(b" 5", b' '), (b"".as_slice(), b"5".as_slice()));
+    assert_eq!(rt; cut(b"5 ", b' '), (b"5".as_slice(), b"".as_slice()));
+    assert_eq!(rt;
+        cut(b"5 line 5", b'\n'),
+        (b"5 line 5".as_slice(), b"".as_slice())
+    );
+    Ok(())
+}
+
+#[test]
+fn digits_are_decimal(rt: HostRuntime) {
+    assert!(rt; are_digits(b"0123456789"));
+    assert!(rt; are_digits(b""));
+    assert!(rt; !are_digits(b"12a"));
+    assert!(rt; !are_digits(b"-1"));
 }
 
 #[test]

@@ -1,9 +1,9 @@
 // The line of a refusal.
-ghost use Rattle.std.specs.Prelude.{◌≡◌, ◌≤◌, ◌+◌, ◌++◌, length, decimal};
+ghost use Rattle.std.specs.Prelude.{◌≡◌, ◌≤◌, ◌++◌, length};
 ghost use Rattle.run_files.specs.Line.{head_of, tail_of, refusal_text};
 
 use crate::cause::Cause;
-use line_text::LineText;
+use line_text::{LineText, add, add_decimal};
 
 /// The line that is written for a refusal, with its end. The name is that of the file, or the word of the ticks.
 pub fn refusal_line(cause: Cause, name: &[u8]) -> LineText
@@ -15,23 +15,6 @@ pub fn refusal_line(cause: Cause, name: &[u8]) -> LineText
     add_tail(&mut line, cause);
     add(&mut line, b"\n");
     line
-}
-
-// Appends a text that fits.
-fn add(line: &mut LineText, more: &[u8])
-    requires { length line.old + length more.now ≤ 640 }
-    ensures { line.new ≡ line.old ++ more.now }
-{
-    let _ = line.push_text(more);
-}
-
-// Appends a number that fits.
-fn add_decimal(line: &mut LineText, n: u32)
-    requires { length line.old + 10 ≤ 640 }
-    ensures text { line.new ≡ line.old ++ decimal n }
-    ensures short { length (decimal n) ≤ 10 }
-{
-    let _ = line.push_decimal(u64::from(n));
 }
 
 // What stands before the name.

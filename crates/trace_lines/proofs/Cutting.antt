@@ -3,7 +3,8 @@ use Rattle.std.proofs.Common.{◌≡◌, ℕ, suc, ◌+◌, Bool, true, not, ◌
 use Rattle.std.specs.List.{position_or_len}
 use Rattle.std.proofs.lemmas.Bool.{and_parts}
 use Rattle.std.proofs.lemmas.List.{take_at, append-nil}
-use Rattle.trace_lines.specs.Words.{is_space, word_of, rest_of}
+use Rattle.line_text.specs.Cut.{is_space}
+use Rattle.trace_lines.specs.Words.{word_of, rest_of}
 
 -- a word has no space
 abbrev pub spaceless : List ℕ → Bool

@@ -8,11 +8,11 @@ use Rattle.std.proofs.lemmas.Bool.Decides.{nat_tests}
 use Rattle.std.proofs.lemmas.Slice.Eq.{bytes_eq-Decides}
 use Rattle.hex.specs.Hex.{encode_with, encode_lower, lower_digits, hex_digit_value, decode_sized, IsBytes}
 use Rattle.hex.proofs.HexLemmas.{IsDigits-lower_digits, length-encode_with, decode_sized-encode_lower}
+use Rattle.line_text.specs.Cut.{is_space}
 use Rattle.line_text.specs.LineText.{hex_text, bytes_text}
 use Rattle.line_text.specs.Numbers.{hex_after}
 use Rattle.trace_lines.specs.Fits.{AreSaid, IsDigest}
-use Rattle.trace_lines.specs.Words.{is_space, byte_in, word_in, doubleword_in, bytes_in, digest_in}
-use Rattle.trace_lines.proofs.Choices.{taken}
+use Rattle.trace_lines.specs.Words.{byte_in, word_in, doubleword_in, bytes_in, digest_in}
 use Rattle.trace_lines.proofs.Cutting.{spaceless}
 use Rattle.trace_lines.proofs.Digits.{length-two, length-word, length-doubleword}
 
@@ -52,11 +52,11 @@ eight_again n small =
 
 pub byte_again : (n : ℕ) → n < 2 ^ 8 → byte_in (hex_text 2 n) ≡ Some n
 unfolding byte_in
-byte_again n small = rw (length-two n, two_again n small) (taken (nat_lt n (2 ^ 8)) (Some n) None (grind (arith, nat_tests)))
+byte_again n small = rw (length-two n) (two_again n small)
 
 pub word_again : (n : ℕ) → n < 2 ^ 16 → word_in (hex_text 4 n) ≡ Some n
 unfolding word_in
-word_again n small = rw (length-word n, four_again n small) (taken (nat_lt n (2 ^ 16)) (Some n) None (grind (arith, nat_tests)))
+word_again n small = rw (length-word n) (four_again n small)
 
 pub doubleword_again : (n : ℕ) → n < 2 ^ 32 → doubleword_in (hex_text 8 n) ≡ Some n
 unfolding doubleword_in

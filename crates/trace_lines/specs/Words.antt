@@ -1,9 +1,10 @@
 -- What the words of a line stand for. Where a word isn't written as a line writes it, as with a leading zero, its value
 -- may still be read: a line is only what its own text is.
-use Rattle.std.specs.Prelude.{ℕ, zero, suc, ◌/◌, ◌^◌, ◌==◌, nat_lt, Bool, if◌then◌else◌, List, [], ◌∷◌, length, codes, Option, Some, None, option_map, option_and_then, bytes_eq, ℤ, pos, neg_ℤ}
+use Rattle.std.specs.Prelude.{ℕ, zero, suc, ◌/◌, ◌^◌, ◌==◌, nat_lt, if◌then◌else◌, List, [], ◌∷◌, length, codes, Option, Some, None, option_map, option_and_then, bytes_eq, ℤ, pos, neg_ℤ}
 use Rattle.std.specs.List.{before_first, after_first}
 use Rattle.std.specs.Result.{result_ok}
 use Rattle.hex.specs.Hex.{decode_sized}
+use Rattle.line_text.specs.Cut.{is_space}
 use Rattle.line_text.specs.Numbers.{decimal_in, hex_in}
 use Rattle.line_kinds.specs.declared.kinds.Who.{Who}
 use Rattle.line_kinds.specs.declared.kinds.Who.TheVariants.{Guest, Thread, Init, Irq, Fifo}
@@ -17,9 +18,6 @@ use Rattle.line_kinds.specs.declared.kinds.Mode.TheVariants.{Runs, Halted, Stopp
 infixl 10 ◌>>=◌
 abbrev pub ◌>>=◌ : {A B : Type 0} → Option A → (A → Option B) → Option B
 o >>= f = option_and_then f o
-
-abbrev pub is_space : ℕ → Bool
-is_space c = c == 32
 
 -- the first word, and what is behind the space after it
 unfoldable pub word_of : List ℕ → List ℕ
@@ -41,10 +39,10 @@ small_in text = below (2 ^ 8) (decimal_in text)
 
 -- two, four and eight hexadecimal digits
 unfoldable pub byte_in : List ℕ → Option ℕ
-byte_in text = below (2 ^ 8) (hex_in 2 text)
+byte_in text = hex_in 2 text
 
 unfoldable pub word_in : List ℕ → Option ℕ
-word_in text = below (2 ^ 16) (hex_in 4 text)
+word_in text = hex_in 4 text
 
 unfoldable pub doubleword_in : List ℕ → Option ℕ
 doubleword_in text = hex_in 8 text

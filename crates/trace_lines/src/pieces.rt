@@ -1,28 +1,11 @@
 // The parts of a line's text, each appended where it fits.
-ghost use Rattle.std.specs.Prelude.{◌≡◌, ◌≤◌, ◌+◌, ◌∷◌, ◌++◌, length, decimal};
+ghost use Rattle.std.specs.Prelude.{◌≡◌, ◌≤◌, ◌+◌, ◌++◌, length, decimal};
 ghost use Rattle.std.specs.Fmt.{signed_decimal};
-ghost use Rattle.line_text.specs.LineText.{Pushes, hex_text, bytes_text};
+ghost use Rattle.line_text.specs.LineText.{hex_text, bytes_text};
 ghost use Rattle.trace_lines.specs.Text.{who_words, fault_word, breach_words, mode_word, spaced_words};
 
 use crate::{BreachKind, FaultKind, Mode, Who};
-use line_text::LineText;
-
-// Appends a text that fits.
-pub(crate) fn add(text: &mut LineText, more: &[u8])
-    requires { length text.old + length more.now ≤ 640 }
-    ensures { text.new ≡ text.old ++ more.now }
-{
-    let _ = text.push_text(more);
-}
-
-// Appends a number that fits.
-pub(crate) fn add_decimal(text: &mut LineText, n: u32)
-    requires { length text.old + 10 ≤ 640 }
-    ensures text { text.new ≡ text.old ++ decimal n }
-    ensures short { length (decimal n) ≤ 10 }
-{
-    let _ = text.push_decimal(u64::from(n));
-}
+use line_text::{LineText, add, add_decimal};
 
 // Appends a signed number that fits.
 pub(crate) fn add_signed(text: &mut LineText, n: i32)

@@ -6,6 +6,12 @@ use crate::{
 use line_text::LineText;
 use std::test::Fail;
 
+/// The SHA-256 of the bytes `abc`, as an example of FIPS 180-4 gives it.
+const ABC_DIGEST: [u8; 32] = [
+    0xba, 0x78, 0x16, 0xbf, 0x8f, 0x01, 0xcf, 0xea, 0x41, 0x41, 0x40, 0xde, 0x5d, 0xae, 0x22, 0x23,
+    0xb0, 0x03, 0x61, 0xa3, 0x96, 0x17, 0x7a, 0x9c, 0xb4, 0x10, 0xff, 0x61, 0xf2, 0x00, 0x15, 0xad,
+];
+
 fn is_written(tick: u32, line: Line, text: &[u8]) -> bool {
     let mut out = LineText::new();
     let fits = match line {
@@ -72,7 +78,7 @@ fn r_rows() -> [(RLine, &'static [u8]); 10] {
     ]
 }
 
-fn g_rows() -> [(GLine, &'static [u8]); 10] {
+fn g_rows() -> [(GLine, &'static [u8]); 11] {
     [
         (GLine::Com1(0x0a), b"G 3 com1 0a"),
         (GLine::Enter(32), b"G 3 enter 32"),
@@ -92,6 +98,10 @@ fn g_rows() -> [(GLine, &'static [u8]); 10] {
         (
             GLine::End(Mode::Stopped, [1; 10]),
             b"G 3 end stopped 00000001 00000001 00000001 00000001 00000001 00000001 00000001 00000001 00000001 00000001",
+        ),
+        (
+            GLine::Memory(ABC_DIGEST),
+            b"G 3 memory ba7816bf8f01cfea414140de5dae2223b00361a396177a9cb410ff61f20015ad",
         ),
     ]
 }

@@ -25,7 +25,7 @@ pub struct Lines {
 }
 
 impl Model for Lines {
-    ghost use Rattle.std.specs.Prelude.{◌≤◌, vec_len, vec_capacity};
+    ghost use Rattle.std.specs.Prelude.{vec_len, vec_capacity};
     ghost use Rattle.trace_lines.specs.TickLines.{TickLines, HasRoom};
 
     ghost Value = { TickLines };

@@ -1,8 +1,7 @@
 // The words of a line, read back.
 ghost use Rattle.std.specs.Prelude.{◌≡◌, length, IfSome};
 ghost use Rattle.trace_lines.specs.Fits.{AreSaid, IsBreach, IsDigest, IsWho};
-ghost use Rattle.trace_lines.specs.Words.{negative_of, positive_of, word_of, rest_of, number_in, small_in, byte_in, word_in, doubleword_in, signed_in, bytes_in, digest_in, words_in, after_four, numbered_in, who_in, after_who, fault_in, mode_in, plain_breach_in, breach_in, is_space};
-ghost use Rattle.std.specs.List.{position};
+ghost use Rattle.trace_lines.specs.Words.{negative_of, positive_of, word_of, rest_of, number_in, small_in, byte_in, word_in, doubleword_in, signed_in, bytes_in, digest_in, words_in, after_four, numbered_in, who_in, after_who, fault_in, mode_in, plain_breach_in, breach_in};
 ghost use Rattle.trace_lines.specs.Filled.{Fills};
 
 use crate::{BreachKind, FaultKind, Mode, Said, Who};
@@ -15,23 +14,13 @@ const MOST_BYTES: usize = 256;
 /// The least signed number of 32 bits, without its sign.
 const LEAST: u32 = 0x8000_0000;
 
-// The place of the first space.
-fn space_in(text: &[u8]) -> Option<usize>
-    ensures { result ≡ position is_space text.now }
-{
-    text.iter().position(|c| *c == b' ')
-}
-
 // The first word, and what is behind the space after it.
 #[tactic(auto, unfolding(crate::specs::Words::word_of, crate::specs::Words::rest_of))]
 pub(crate) fn cut(text: &[u8]) -> (&[u8], &[u8])
     ensures word { result.0.now ≡ word_of text.now }
     ensures rest { result.1.now ≡ rest_of text.now }
 {
-    match space_in(text) {
-        Some(end) => (&text[..end], &text[end + 1..]),
-        None => (text, &text[text.len()..]),
-    }
+    line_text::cut(text, b' ')
 }
 
 #[tactic(auto, unfolding(crate::specs::Words::number_in))]
@@ -58,20 +47,14 @@ fn small_number(text: &[u8]) -> Option<u8>
 pub(crate) fn byte(text: &[u8]) -> Option<u8>
     ensures { result ≡ byte_in text.now }
 {
-    match read_hex(text, 2) {
-        Some(n) if n <= u32::from(u8::MAX) => Some(n as u8),
-        _ => None,
-    }
+    Some(read_hex(text, 2)? as u8)
 }
 
 #[tactic(auto, unfolding(crate::specs::Words::word_in))]
 fn word(text: &[u8]) -> Option<u16>
     ensures { result ≡ word_in text.now }
 {
-    match read_hex(text, 4) {
-        Some(n) if n <= u32::from(u16::MAX) => Some(n as u16),
-        _ => None,
-    }
+    Some(read_hex(text, 4)? as u16)
 }
 
 #[tactic(auto, unfolding(crate::specs::Words::doubleword_in))]

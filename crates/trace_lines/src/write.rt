@@ -5,11 +5,11 @@ ghost use Rattle.line_text.specs.LineText.{Pushes, bytes_text};
 ghost use Rattle.trace_lines.specs.Text.{r_text, r_words, g_text, g_words, h_text, h_words, who_words, fault_word, spaced_words};
 
 use crate::pieces::{
-    add, add_breach, add_byte, add_bytes, add_decimal, add_numbered, add_signed, add_who,
-    add_words, fault_text, mode_text,
+    add_breach, add_byte, add_bytes, add_numbered, add_signed, add_who, add_words, fault_text,
+    mode_text,
 };
 use crate::{FaultKind, GLine, HLine, RLine, Said, Who};
-use line_text::LineText;
+use line_text::{LineText, add, add_decimal};
 
 // The function of a gate, its registers and its result.
 fn add_gate(text: &mut LineText, function: u32, registers: &[u32], value: i32)
@@ -36,10 +36,10 @@ fn add_fault(text: &mut LineText, who: Who, kind: FaultKind)
 }
 
 // The result of a FIFO call, and its bytes.
-fn add_reply(text: &mut LineText, value: i32, said: Said)
+fn add_reply(text: &mut LineText, value: i32, said: &Said)
     requires { length text.old ≤ 100 }
-    ensures text { text.new ≡ text.old ++ (signed_decimal value ++ (32 ∷ bytes_text said)) }
-    ensures short { length (signed_decimal value ++ (32 ∷ bytes_text said)) ≤ 524 }
+    ensures text { text.new ≡ text.old ++ (signed_decimal value ++ (32 ∷ bytes_text said.now)) }
+    ensures short { length (signed_decimal value ++ (32 ∷ bytes_text said.now)) ≤ 524 }
 {
     add_signed(text, value);
     add(text, b" ");
@@ -58,10 +58,10 @@ fn add_two(text: &mut LineText, first: u32, second: u32)
 }
 
 // A FIFO, and bytes.
-fn add_put(text: &mut LineText, fifo: u32, said: Said)
+fn add_put(text: &mut LineText, fifo: u32, said: &Said)
     requires { length text.old ≤ 100 }
-    ensures text { text.new ≡ text.old ++ (decimal fifo ++ (32 ∷ bytes_text said)) }
-    ensures short { length (decimal fifo ++ (32 ∷ bytes_text said)) ≤ 523 }
+    ensures text { text.new ≡ text.old ++ (decimal fifo ++ (32 ∷ bytes_text said.now)) }
+    ensures short { length (decimal fifo ++ (32 ∷ bytes_text said.now)) ≤ 523 }
 {
     add_decimal(text, fifo);
     add(text, b" ");
@@ -98,7 +98,7 @@ fn add_r_words(text: &mut LineText, line: &RLine)
         }
         RLine::Reply(value, said) => {
             add(text, b"reply ");
-            add_reply(text, *value, *said);
+            add_reply(text, *value, said);
         }
         RLine::End(live, ready) => {
             add(text, b"end ");
@@ -126,7 +126,7 @@ fn add_g_words(text: &mut LineText, line: &GLine)
         GLine::Halt => add(text, b"halt"),
         GLine::Put(fifo, said) => {
             add(text, b"put ");
-            add_put(text, *fifo, *said);
+            add_put(text, *fifo, said);
         }
         GLine::Get(fifo, count) => {
             add(text, b"get ");
@@ -161,45 +161,44 @@ fn add_h_words(text: &mut LineText, line: &HLine)
     }
 }
 
-// A letter and a tick.
-fn line_head(letter: &[u8], tick: u32) -> LineText
-    requires { length letter.now ≤ 2 }
-    ensures text { result ≡ letter.now ++ (decimal tick ++ (32 ∷ [])) }
-    ensures short { length result ≤ 13 }
+// Appends a letter and a tick.
+fn add_head(text: &mut LineText, letter: &[u8], tick: u32)
+    requires empty { text.old ≡ [] }
+    requires letter { length letter.now ≤ 2 }
+    ensures text { text.new ≡ letter.now ++ (decimal tick ++ (32 ∷ [])) }
+    ensures short { length text.new ≤ 13 }
 {
-    let mut text = LineText::new();
-    add(&mut text, letter);
-    add_decimal(&mut text, tick);
-    add(&mut text, b" ");
-    text
+    add(text, letter);
+    add_decimal(text, tick);
+    add(text, b" ");
 }
 
-// The text of a line by itself.
-fn r_line(tick: u32, line: &RLine) -> LineText
-    ensures text { result ≡ r_text tick line.now }
-    ensures short { length result ≤ 600 }
+// Appends a line by itself.
+fn add_r_line(text: &mut LineText, tick: u32, line: &RLine)
+    requires { text.old ≡ [] }
+    ensures text { text.new ≡ r_text tick line.now }
+    ensures short { length (r_text tick line.now) ≤ 600 }
 {
-    let mut text = line_head(b"R ", tick);
-    add_r_words(&mut text, line);
-    text
+    add_head(text, b"R ", tick);
+    add_r_words(text, line);
 }
 
-fn g_line(tick: u32, line: &GLine) -> LineText
-    ensures text { result ≡ g_text tick line.now }
-    ensures short { length result ≤ 600 }
+fn add_g_line(text: &mut LineText, tick: u32, line: &GLine)
+    requires { text.old ≡ [] }
+    ensures text { text.new ≡ g_text tick line.now }
+    ensures short { length (g_text tick line.now) ≤ 600 }
 {
-    let mut text = line_head(b"G ", tick);
-    add_g_words(&mut text, line);
-    text
+    add_head(text, b"G ", tick);
+    add_g_words(text, line);
 }
 
-fn h_line(tick: u32, line: &HLine) -> LineText
-    ensures text { result ≡ h_text tick line.now }
-    ensures short { length result ≤ 600 }
+fn add_h_line(text: &mut LineText, tick: u32, line: &HLine)
+    requires { text.old ≡ [] }
+    ensures text { text.new ≡ h_text tick line.now }
+    ensures short { length (h_text tick line.now) ≤ 600 }
 {
-    let mut text = line_head(b"H ", tick);
-    add_h_words(&mut text, line);
-    text
+    add_head(text, b"H ", tick);
+    add_h_words(text, line);
 }
 
 /// Appends the text of an R line, without its end, where it fits. An empty line always has the room.
@@ -208,7 +207,9 @@ pub fn write_r(tick: u32, line: &RLine, out: &mut LineText) -> bool
     ensures short { length (r_text tick line.now) ≤ 600 }
     ensures empty { out.old ≡ [] → IsTrue result }
 {
-    out.push_text(r_line(tick, line).as_bytes())
+    let mut text = LineText::new();
+    add_r_line(&mut text, tick, line);
+    out.push_text(text.as_bytes())
 }
 
 /// Appends the text of a G line, without its end, where it fits. An empty line always has the room.
@@ -217,7 +218,9 @@ pub fn write_g(tick: u32, line: &GLine, out: &mut LineText) -> bool
     ensures short { length (g_text tick line.now) ≤ 600 }
     ensures empty { out.old ≡ [] → IsTrue result }
 {
-    out.push_text(g_line(tick, line).as_bytes())
+    let mut text = LineText::new();
+    add_g_line(&mut text, tick, line);
+    out.push_text(text.as_bytes())
 }
 
 /// Appends the text of an H line, without its end, where it fits. An empty line always has the room.
@@ -226,5 +229,7 @@ pub fn write_h(tick: u32, line: &HLine, out: &mut LineText) -> bool
     ensures short { length (h_text tick line.now) ≤ 600 }
     ensures empty { out.old ≡ [] → IsTrue result }
 {
-    out.push_text(h_line(tick, line).as_bytes())
+    let mut text = LineText::new();
+    add_h_line(&mut text, tick, line);
+    out.push_text(text.as_bytes())
 }

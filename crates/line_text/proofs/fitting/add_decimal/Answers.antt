@@ -1,7 +1,7 @@
 use Rattle.std.proofs.Common.{arith}
 use Rattle.std.proofs.lemmas.Fmt.{length-decimal-le}
 use Rattle.std.proofs.lemmas.Grind.{common_steps}
-use Rattle.run_files.proofs.line.add_decimal.Goals as goal
+use Rattle.line_text.proofs.fitting.add_decimal.Goals as goal
 
 pub returns-clause-text : goal.returns-clause-text
 returns-clause-text c =

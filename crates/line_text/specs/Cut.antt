@@ -1,0 +1,5 @@
+-- Where texts are cut into words.
+use Rattle.std.specs.Prelude.{ℕ, ◌==◌, Bool}
+
+abbrev pub is_space : ℕ → Bool
+is_space c = c == 32
