@@ -8,9 +8,10 @@ use Rattle.std.proofs.lemmas.Bool.{cases_Bool, and_parts, ltb-true}
 use Rattle.std.proofs.lemmas.Bool.Decides.{nat_tests}
 use Rattle.std.proofs.lemmas.List.Folds.{list_all-append}
 use Rattle.std.proofs.lemmas.List.Sums.{sum_by_push}
+use Rattle.line_text.specs.Cut.{is_space}
 use Rattle.device_script.specs.declared.event.Event.{Event}
 use Rattle.device_script.specs.declared.event.Event.TheVariants.{Line, Com1, Com2}
-use Rattle.device_script.specs.Line.{is_skipped, is_space, tick_of, tick_in, line_of, byte_of, event_in, behind_tick, event_of}
+use Rattle.device_script.specs.Line.{is_skipped, tick_of, tick_in, line_of, byte_of, event_in, behind_tick, event_of}
 use Rattle.device_script.specs.Event.{Events, none_later, count_at, follows}
 use Rattle.device_script.specs.Event.{IsScript, is_event, is_line, is_device_event, rises}
 use Rattle.std.specs.Prelude.{IfOk}

@@ -3,6 +3,8 @@ use Rattle.std.specs.Prelude.{ℕ, ◌+◌, ◌-◌, ◌*◌, ◌==◌, ◌&&◌
 use Rattle.std.specs.Str.{bytes_eq}
 use Rattle.std.specs.Char.{is_ascii_digit}
 use Rattle.std.specs.List.{list_all, before_first, after_first}
+use Rattle.line_text.specs.Cut.{is_space}
+use Rattle.line_text.specs.Numbers.{hex_in}
 use Rattle.device_script.specs.declared.event.Event.{Event}
 use Rattle.device_script.specs.declared.event.Event.TheVariants.{Line, Com1, Com2}
 use Rattle.device_script.specs.Event.{is_tick}
@@ -13,9 +15,6 @@ is_skipped [] = true
 is_skipped (b ∷ bs) = b == 35
 
 -- Any other is `T line N`, `T com1 HH` or `T com2 HH`: three parts, apart by one or more spaces (32), and nothing else
-
-abbrev pub is_space : ℕ → Bool
-is_space b = b == 32
 
 abbrev pub skip_spaces : List ℕ → List ℕ
 skip_spaces [] = []
@@ -39,16 +38,9 @@ line_of (d ∷ []) = if d == 49 then Some 1 else if nat_le 53 d && nat_le d 57 t
 line_of (t ∷ d ∷ []) = if t == 49 && (nat_le 48 d && nat_le d 53) then Some (d - 48 + 10) else None
 line_of _ = None
 
--- a hex digit of either case: 0 to 9 (48 to 57), a to f (97 to 102), A to F (65 to 70)
-abbrev pub hex_of : ℕ → Option ℕ
-hex_of c = if nat_le 48 c && nat_le c 57 then Some (c - 48)
-    else if nat_le 97 c && nat_le c 102 then Some (c - 97 + 10)
-    else if nat_le 65 c && nat_le c 70 then Some (c - 65 + 10) else None
-
--- HH: two hex digits
+-- HH: two hex digits of either case
 abbrev pub byte_of : List ℕ → Option ℕ
-byte_of (high ∷ low ∷ []) = option_and_then (λ h. option_map (λ l. h * 16 + l) (hex_of low)) (hex_of high)
-byte_of _ = None
+byte_of text = hex_in 2 text
 
 -- the second and the third part
 unfoldable pub event_in : List ℕ → List ℕ → Option Event

@@ -34,6 +34,7 @@ impl Model for Draft {
 }
 
 impl Draft {
+    /// No events.
     pub fn new(alloc: Global) -> Draft
         ensures { result ≡ [] }
     {
@@ -51,6 +52,8 @@ impl Draft {
         may_follow(self.last, self.same, tick)
     }
 
+    /// Adds an event behind the others, at a tick counted from 1. It fails only where memory is refused for the longer list; what
+    /// the draft then holds isn't said, and a reader gives up.
     pub fn push(&mut self, tick: u32, event: Event) -> Result<(), AllocError>
         requires { follows self.old tick ≡ true }
         ensures { OnOk result (self.new ≡ self.old ++ (tick, event) ∷ []) }

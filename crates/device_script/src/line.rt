@@ -1,14 +1,16 @@
 // One line of a script.
-ghost use Rattle.std.specs.Prelude.{◌≡◌, Option, option_map, ◌*◌, ◌+◌};
-ghost use Rattle.std.specs.List.{list_all};
-ghost use Rattle.std.specs.Char.{is_ascii_digit};
-ghost use Rattle.device_script.specs.Line.{event_of, behind_tick, event_in, tick_of, tick_in, line_of, byte_of, hex_of, decimal, is_skipped as skipped_test};
+ghost use Rattle.std.specs.Prelude.{◌≡◌};
+ghost use Rattle.device_script.specs.Line.{event_of, behind_tick, event_in, tick_of, tick_in, line_of, byte_of, decimal, is_skipped as skipped_test};
 
-use crate::cut::{cut, skip};
+use crate::cut::skip;
 use crate::event::Event;
+use line_text::{are_digits, cut, read_hex};
 
 /// The last tick that an event may have.
 const LAST_TICK: u64 = 1_000_000_000;
+
+/// The longest text of a tick, in digits.
+const TICK_DIGITS: usize = 10;
 
 /// Whether the line has no event: it is empty, or a comment.
 pub fn is_skipped(line: &[u8]) -> bool
@@ -59,7 +61,7 @@ fn kind_event(kind: &[u8], value: &[u8]) -> Option<Event>
 fn tick(text: &[u8]) -> Option<u32>
     ensures { result ≡ tick_of text.now }
 {
-    if text.len() < 1 || text.len() > 10 || !are_digits(text) {
+    if text.is_empty() || text.len() > TICK_DIGITS || !are_digits(text) {
         return None;
     }
     value_within(text)
@@ -82,12 +84,6 @@ fn value_within(text: &[u8]) -> Option<u32>
     Some(n as u32)
 }
 
-fn are_digits(text: &[u8]) -> bool
-    ensures { result ≡ list_all is_ascii_digit text.now }
-{
-    text.iter().all(|c| c.is_ascii_digit())
-}
-
 fn line(text: &[u8]) -> Option<u8>
     ensures { result ≡ line_of text.now }
 {
@@ -102,22 +98,5 @@ fn line(text: &[u8]) -> Option<u8>
 fn byte(text: &[u8]) -> Option<u8>
     ensures { result ≡ byte_of text.now }
 {
-    match text {
-        [high, low] => Some(hex(*high)? * 16 + hex(*low)?),
-        _ => None,
-    }
-}
-
-fn hex(c: u8) -> Option<u8>
-    ensures { result ≡ hex_of c }
-{
-    if b'0' <= c && c <= b'9' {
-        Some(c - b'0')
-    } else if b'a' <= c && c <= b'f' {
-        Some(c - b'a' + 10)
-    } else if b'A' <= c && c <= b'F' {
-        Some(c - b'A' + 10)
-    } else {
-        None
-    }
+    Some(read_hex(text, 2)? as u8)
 }

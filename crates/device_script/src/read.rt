@@ -1,7 +1,6 @@
 // Reading a script.
 
-ghost use Rattle.std.specs.Prelude.{◌≡◌, ◌≤◌, ◌<◌, ◌+◌, length, IfOk};
-ghost use Rattle.std.specs.Str.Lines.{lines};
+ghost use Rattle.std.specs.Prelude.{◌≤◌, length, IfOk};
 ghost use Rattle.device_script.specs.Event.{IsScript};
 ghost use Rattle.device_script.specs.Script.{script_of, after_line, Answers, Took};
 

@@ -1,3 +1,5 @@
+// Scripts, and what is read in them. Each expected value is worked by hand from the grammar and the bounds of a script: the
+// first lines of this crate, and `docs/FORMATS.md`.
 use crate::Event::{Com1, Com2, Line};
 use crate::{Event, ScriptRefusal, read_script};
 use std::alloc::Global;
@@ -12,6 +14,7 @@ const SIXTEEN: &str =
 fn read_all(rt: &impl Abort, alloc: Global, cases: &[Case]) {
     for (text, why, wanted) in cases {
         let bytes = text.as_bytes();
+        // no case is longer: it shows the check the bound that `read_script` asks for
         assert!(rt; bytes.len() < 1000);
         match read_script(alloc, bytes) {
             Ok(script) => match wanted {
@@ -24,9 +27,8 @@ fn read_all(rt: &impl Abort, alloc: Global, cases: &[Case]) {
     }
 }
 
-// Scripts that are taken, and damaged ones, by the grammar of the library's first lines.
 #[test]
-fn scripts(rt: HostRuntime) {
+fn a_script_gives_its_events_or_its_first_bad_line(rt: HostRuntime) {
     read_all(
         &rt,
         rt.alloc(),
