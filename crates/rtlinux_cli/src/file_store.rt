@@ -1,8 +1,8 @@
 // The store over the system's files.
-ghost use Rattle.std.specs.Prelude.{◌≡◌, ◌≤◌, ◌^◌, length, take};
+ghost use Rattle.std.specs.Prelude.{◌≡◌, ◌≤◌, length};
 ghost use Rattle.outside_io.specs.Causes.{Rose};
 
-use outside_io::{Content, Fetched, Store, StoreFault};
+use outside_io::{Content, Fetched, LastName, Store, StoreFault};
 use std::alloc::Global;
 use std::fs;
 use std::io::Read;
@@ -17,9 +17,7 @@ const CHUNK: usize = 4096;
 pub struct FileStore<'a, R: Files> {
     rt: &'a R,
     faults: u64,
-    last: [u8; 255],
-    last_len: usize,
-    ghost short: { last_len ≤ 255 },
+    last: LastName,
 }
 
 impl<'a, R: Files> FileStore<'a, R> {
@@ -28,8 +26,7 @@ impl<'a, R: Files> FileStore<'a, R> {
         FileStore {
             rt,
             faults: 0,
-            last: [0; 255],
-            last_len: 0,
+            last: LastName::new(),
         }
     }
 
@@ -39,31 +36,22 @@ impl<'a, R: Files> FileStore<'a, R> {
         ensures answer { result ≡ StoreFault.Failed }
         ensures rose { Rose self.old.faults self.new.faults }
         ensures later { self.old.faults ≤ self.new.faults }
-        ensures name { take self.new.last_len self.new.last ≡ name.now }
+        ensures name { self.new.last ≡ name.now }
     {
         self.faults = self.faults.saturating_add(1);
-        self.last_len = keep_name(&mut self.last, name.as_bytes());
+        self.last.keep(name.as_bytes());
         StoreFault::Failed
     }
 }
 
-fn keep_name(last: &mut [u8; 255], name: &[u8]) -> usize
-    requires { length name.now ≤ 255 }
-    ensures len { result ≡ length name.now }
-    ensures name { take result last.new ≡ name.now }
-{
-    last[..name.len()].copy_from_slice(name);
-    name.len()
-}
-
 impl<R: Files> Store for FileStore<'_, R> {
-    ghost use Rattle.std.specs.Prelude.{None, take};
+    ghost use Rattle.std.specs.Prelude.{None};
 
     ghost held = { λ _. None };
 
     ghost faults = { λ store. store.faults };
 
-    ghost failed_last = { λ store. take store.last_len store.last };
+    ghost failed_last = { λ store. store.last };
 
     fn fetch(&mut self, alloc: Global, name: &str, limit: u32) -> Result<Fetched, StoreFault> {
         match read_file(self.rt, alloc, name, limit as usize) {

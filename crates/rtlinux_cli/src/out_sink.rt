@@ -1,5 +1,4 @@
 // The sink over standard output.
-ghost use Rattle.std.specs.Prelude.{◌≡◌};
 
 use outside_io::{Sink, SinkFault};
 use std::io;
