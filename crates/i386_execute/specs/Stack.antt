@@ -1,5 +1,5 @@
 -- The stack (Intel 80386 manual, sections 3.1.2, 3.5.1 and 3.7).
-use Rattle.std.specs.Prelude.{ℕ, ◌+◌, ◌-◌, ◌*◌, ◌%◌, ◌^◌, List, [], ◌∷◌, slice_index, slice_set}
+use Rattle.std.specs.Prelude.{ℕ, ◌+◌, ◌-◌, ◌%◌, ◌^◌, List, [], ◌∷◌, slice_index, slice_set}
 use Rattle.cpu_state.specs.Registers.{esp, ebp, with_esp}
 use Rattle.cpu_state.specs.Width.{size}
 use Rattle.cpu_state.specs.declared.registers.Registers.{Registers}
@@ -11,7 +11,6 @@ use Rattle.i386_decode.specs.declared.form.Operand.TheVariants.{Immediate}
 use Rattle.i386_effects.specs.Operands.{value_of, with_operand, writes_to}
 use Rattle.i386_effects.specs.Change.{Change, Done, eight_pushed}
 use Rattle.i386_effects.specs.declared.lists.Touch.{Touch}
-use Rattle.i386_effects.specs.declared.lists.Write.{Write}
 use Rattle.i386_execute.specs.Results.{first, with_general}
 
 -- ESP moved down by n bytes, or up, modulo 2^32
