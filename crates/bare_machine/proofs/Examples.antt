@@ -1,18 +1,18 @@
 -- What a tick comes to where no instruction is decoded, by computation.
-use Rattle.std.proofs.Common.{◌≡◌, ℕ, true, false, refl, List, [], ◌∷◌, Some, pos, negsuc}
+use Rattle.std.proofs.Common.{◌≡◌, ℕ, true, false, refl, [], ◌∷◌, Some, pos, negsuc}
 use Rattle.cpu_state.specs.Registers.{eax}
 use Rattle.line_kinds.specs.declared.kinds.BreachKind.TheVariants.{Load, Store}
-use Rattle.line_kinds.specs.declared.kinds.GLine.TheVariants.{Breach, Shutdown, Halt, Com1}
-use Rattle.line_kinds.specs.declared.kinds.Mode.TheVariants.{Runs, Halted, Stopped}
+use Rattle.line_kinds.specs.declared.kinds.GLine.TheVariants.{Breach, Shutdown, Com1}
+use Rattle.line_kinds.specs.declared.kinds.Mode.TheVariants.{Halted, Stopped}
 use Rattle.line_sets.specs.LineSet.{union, minus, first_in}
 use Rattle.soft_entry.specs.Entry.{entering}
 use Rattle.machine_parts.specs.Ranges.{first_outside}
 use Rattle.run_lines.specs.Calls.{PutCall, GetCall}
 use Rattle.run_lines.specs.Says.{Answer}
 use Rattle.bare_machine.specs.Calls.{set_timer, fifo_put, fifo_get, is_served, replied}
-use Rattle.bare_machine.specs.State.{Bare, UnitOutcome, Done, Calls, all_services, no_services, first_state}
+use Rattle.bare_machine.specs.State.{Bare, Done, Calls, all_services, no_services, first_state}
 use Rattle.bare_machine.specs.Tick.{asked_also, com1_lines, guest_begins, prepared}
-use Rattle.bare_machine.specs.Unit.{guest_unit, unit_lines, unit_after}
+use Rattle.bare_machine.specs.Unit.{guest_unit, unit_after}
 
 -- a guest of four bytes that halted, of which line 5 is asked
 asleep : Bare

@@ -74,23 +74,28 @@ static FETCHED: [[u8; 15]; 16] = [
     ],
 ];
 
-/// How many bytes the instruction at the front has; 0 where there is none.
-fn size_of(bytes: &[u8]) -> u64 {
-    match decode(bytes) {
-        Decoded::Form(_, size) => size as u64,
-        Decoded::Undefined | Decoded::Short => 0,
+/// How often an instruction of the list is another than the one before it, in one pass. Each answer is compared whole, so that no
+/// part of it is left out when the program is built.
+fn changes_in_pass(before: &mut Decoded) -> u64 {
+    let mut changes = 0u64;
+    for bytes in &FETCHED {
+        let decoded = decode(bytes);
+        if decoded != *before {
+            changes = changes.wrapping_add(1);
+        }
+        *before = decoded;
     }
+    changes
 }
 
-/// How many bytes the instructions of the list have, so often.
-fn total_size(count: u32) -> u64 {
-    let mut total = 0u64;
+/// The same in so many passes.
+fn changes(count: u32) -> u64 {
+    let mut before = Decoded::Undefined;
+    let mut changes = 0u64;
     for _ in 0..count {
-        for bytes in &FETCHED {
-            total = total.wrapping_add(size_of(bytes));
-        }
+        changes = changes.wrapping_add(changes_in_pass(&mut before));
     }
-    total
+    changes
 }
 
 fn main(rt: HostRuntime) -> io::Result<()> {
@@ -101,13 +106,13 @@ fn main(rt: HostRuntime) -> io::Result<()> {
         return Err(io::ErrorKind::InvalidInput.into());
     };
     let start = Instant::now(&rt)?;
-    let total = total_size(count);
+    let changes = changes(count);
     let nanoseconds = start.elapsed(&rt)?.as_nanos();
     let decodes = count as u128 * 16;
     let rate = match (decodes * 1_000_000_000).checked_div(nanoseconds) {
         Some(rate) => rate,
         None => 0,
     };
-    println!(rt; "{rate} decodes per second, {total} bytes")?;
+    println!(rt; "{rate} decodes per second, {changes} changes")?;
     Ok(())
 }

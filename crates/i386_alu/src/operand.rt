@@ -1,5 +1,5 @@
 // Operands as numbers, and the flags of a result.
-ghost use Rattle.std.specs.Prelude.{◌≡◌, ◌<◌, ◌-◌, ◌*◌, ◌%◌, ◌≤◌, pos, ◌^◌, ◌≤ℤ◌, ◌<ℤ◌, ◌-ℤ◌};
+ghost use Rattle.std.specs.Prelude.{◌≡◌, ◌<◌, ◌-◌, ◌%◌, ◌≤◌, pos, ◌^◌, ◌≤ℤ◌, ◌<ℤ◌, ◌-ℤ◌};
 ghost use Rattle.cpu_state.specs.Width.{modulus};
 ghost use Rattle.i386_alu.specs.Operand.{signed, leaves, wrapped, carried, of_result};
 

@@ -1,10 +1,7 @@
 -- What the guest sees of real-time lines with end lines behind them is what it sees without.
-use Rattle.std.proofs.Common.{◌≡◌, ℕ, zero, suc, ◌==◌, Bool, true, false, refl, ap, ◌∙◌, List, [], ◌∷◌, ◌++◌, if◌then◌else◌, Option, fold}
-use Rattle.std.proofs.lemmas.List.{append-nil}
-use Rattle.std.proofs.lemmas.List.Sums.{fold-append}
+use Rattle.std.proofs.Common.{◌≡◌, ℕ, zero, suc, ◌==◌, refl, ap, ◌∙◌, List, [], ◌++◌, if◌then◌else◌, Option, fold}
 use Rattle.device_script.specs.declared.event.Event.{Event}
 use Rattle.line_kinds.specs.declared.kinds.RLine.{RLine}
-use Rattle.line_kinds.specs.declared.kinds.RLine.TheVariants.{Com2, Release, On, Gate, Say, Ret, Fault, Reply, End, Memory}
 use Rattle.line_kinds.specs.declared.kinds.Who.{Who}
 use Rattle.rt_core.specs.End.{quiet_end}
 use Rattle.run_lines.specs.Says.{Answer, Sight, holder, held_by, held, after_owner, reply_in, is_guest, after_pend, sight}

@@ -2,7 +2,6 @@
 use Rattle.std.proofs.Common.{◌≡◌, ℕ, true, false, refl, List, [], ◌∷◌, Some, pos, negsuc}
 use Rattle.line_sets.specs.LineSet.{with_line, without_line}
 use Rattle.line_kinds.specs.declared.kinds.FaultKind.TheVariants.{Divide}
-use Rattle.line_kinds.specs.declared.kinds.GLine.{GLine}
 use Rattle.line_kinds.specs.declared.kinds.GLine.TheVariants.{Com1, Put, Get}
 use Rattle.line_kinds.specs.declared.kinds.RLine.{RLine}
 use Rattle.line_kinds.specs.declared.kinds.RLine.TheVariants.{On, Gate, Fault, Reply}

@@ -1,9 +1,7 @@
 -- The order of lines, by computation, and that more ticks go on from fewer.
 use Rattle.std.proofs.Common.{◌≡◌, ℕ, zero, suc, ◌+◌, Bool, true, false, refl, List, [], ◌∷◌}
 use Rattle.device_script.specs.declared.event.Event.{Event}
-use Rattle.line_kinds.specs.declared.kinds.GLine.{GLine}
 use Rattle.line_kinds.specs.declared.kinds.GLine.TheVariants.{Halt, Com1}
-use Rattle.line_kinds.specs.declared.kinds.HLine.{HLine}
 use Rattle.line_kinds.specs.declared.kinds.HLine.TheVariants.{Ack}
 use Rattle.line_kinds.specs.declared.kinds.Line.TheVariants.{R, G, H}
 use Rattle.line_kinds.specs.declared.kinds.RLine.{RLine}
