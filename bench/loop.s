@@ -1,8 +1,8 @@
-# A boot sector with the loop of examples/loop.bin: a decrement and a jump, COUNT times; then it ends the emulator.
+# A ROM of 64 KB with the loop of examples/loop.bin: a decrement and a jump, COUNT times; then it ends the emulator. The processor
+# starts 16 bytes before its end.
     .code16
     .globl _start
 _start:
-    cli
     movl $COUNT, %ecx
 again:
     decl %ecx
@@ -10,16 +10,15 @@ again:
     movw $0xf4, %dx             # QEMU's isa-debug-exit
     outb %al, %dx
     movw $0x8900, %dx           # Bochs' shutdown port
-    xorw %bx, %bx
-    movw %bx, %ds
-    movw $0x7c00 + (text - _start), %si
+    movw $(text - _start), %si
 next:
-    lodsb
+    lodsb %cs:(%si), %al
     outb %al, %dx
     testb %al, %al
     jnz next
     hlt
 text:
     .asciz "Shutdown"
-    .org 510
-    .word 0xaa55
+    .org 0xfff0
+    jmp _start
+    .org 0x10000

@@ -1,7 +1,8 @@
 #!/usr/bin/env bash
 # Times the built program on four images and prints, for each, ticks per second of processor time, the rate as a ratio to that
-# of the loop, and peak memory; beside it the same loop in QEMU and Bochs, one instruction at a time, where these and an
-# assembler are installed. All ratios are of one run of this script. It builds nothing of the product.
+# of the loop, and peak memory; beside it the same loop in QEMU, one instruction at a time, and in Bochs, where these and an
+# assembler are installed. All take turns in twenty rounds, and the best of each counts, so that a machine that is slow for a while
+# is so for all of them. All ratios are of one run of this script. It builds nothing of the product.
 # usage: bench/run.sh [PROGRAM]
 set -euo pipefail
 [ $# -le 1 ] || { echo "usage: bench/run.sh [PROGRAM]" >&2; exit 2; }
@@ -13,110 +14,122 @@ command -v python3 > /dev/null || { echo "bench: no python3, which measures" >&2
 work=$(mktemp -d)
 trap 'rm -rf "$work"' EXIT
 
-# Prints the rate of NAME's emulator or image and its ratio to the loop's, which is measured first.
-report() {
-    local name=$1 rate=$2 unit=$3 rest=${4:-}
-    [ -s "$work/loop" ] || echo "$rate" > "$work/loop"
-    awk -v name="$name" -v rate="$rate" -v unit="$unit" -v loop="$(cat "$work/loop")" -v rest="$rest" \
-        'BEGIN { printf "%-46s %7.2f million %s per second, %.2f of the loop%s\n", name, rate / 1e6, unit, rate / loop, rest }'
+ticks=3000000
+few=100000
+many=10100000
+
+# What is measured, one line each: its name, then the words of its command.
+measure() {
+    (IFS=$'\t' && printf '%s\n' "$*") >> "$work/commands"
 }
 
-# The best of three runs.
-measure() {
-    local result
-    result=$(python3 - "$program" "$2" "$ticks" <<'PY'
+printf '\xcd\xf5' > "$work/halted.bin"                                # the soft hlt
+printf '\xb0\x41\x66\xba\xf8\x03\xee\xeb\xfd' > "$work/sends.bin"    # out to 3F8h and a jump back to it
+measure "a loop of two instructions" "$program" flat examples/loop.bin "$ticks"
+measure "a computation in C, then a jump to itself" "$program" flat examples/compute/compute.bin "$ticks"
+measure "a halted guest: devices and lines alone" "$program" flat "$work/halted.bin" "$ticks"
+measure "writes to COM1, one line in 32 ticks" "$program" flat "$work/sends.bin" "$ticks"
+
+# A ROM that runs the loop so often.
+rom() {
+    as --32 --defsym COUNT="$1" bench/loop.s -o "$work/loop.o"
+    ld -m elf_i386 -Ttext=0 --oformat binary "$work/loop.o" -o "$work/$1.rom" 2>/dev/null
+}
+
+# An emulator's rate is the difference of a run with many turns of the loop and one with few, so that its start doesn't count.
+emulator() {
+    local name=$1
+    shift
+    measure "$name" "${@/ROM/$work/$few.rom}"
+    measure "$name" "${@/ROM/$work/$many.rom}"
+}
+
+if command -v as > /dev/null && command -v ld > /dev/null; then
+    rom "$few"
+    rom "$many"
+    if command -v qemu-system-i386 > /dev/null; then
+        single=(-accel "tcg,one-insn-per-tb=on")
+        if qemu-system-i386 --help | grep -- -singlestep > /dev/null; then
+            single=(-singlestep)
+        fi
+        emulator "QEMU, one instruction at a time" qemu-system-i386 -display none -serial none -monitor none -nodefaults \
+            -device isa-debug-exit,iobase=0xf4 -bios ROM -icount shift=0,sleep=off "${single[@]}"
+    else
+        echo "QEMU: skipped, not installed"
+    fi
+    if command -v bochs > /dev/null; then
+        # A build without the display that shows nothing gets that of a terminal.
+        settings="$work/bochs.settings"
+        printf '%s\n' "display_library: nogui" "megs: 32" "log: $work/bochs.log" > "$settings"
+        bochs=(env TERM=xterm bochs -q -f "$settings" "romimage: file=ROM, address=0xffff0000")
+        "${bochs[@]/ROM/$work/$few.rom}" <<< c > "$work/bochs.out" 2>&1 || true
+        if grep "not available" "$work/bochs.out" > /dev/null; then
+            sed -i 's/nogui/term/' "$settings"
+        fi
+        emulator "Bochs" "${bochs[@]}"
+    else
+        echo "Bochs: skipped, not installed"
+    fi
+else
+    echo "QEMU and Bochs: skipped, no assembler or linker for their ROM"
+fi
+
+echo c > "$work/debugger"
+python3 - "$work/commands" "$work/debugger" "$program" "$ticks" "$few" "$many" <<'PY'
 import re, resource, subprocess, sys, time
+
+commands, debugger, program = sys.argv[1:4]
+ticks, few, many = map(int, sys.argv[4:])
+with open(commands) as lines:
+    measured = [tuple(line.rstrip("\n").split("\t")) for line in lines]
+seconds, peak, endless = {}, {}, set()
+
 def spent():
     usage = resource.getrusage(resource.RUSAGE_CHILDREN)
     return usage.ru_utime + usage.ru_stime
-program, image, ticks = sys.argv[1:]
-best, peak = 0, 0
-for _ in range(3):
-    start = spent()
-    process = subprocess.Popen([program, "flat", image, ticks], stdout=subprocess.DEVNULL)
-    high = 0
+
+# The processor time of one run, which ends within a minute, and the most memory that it was seen to have.
+def run(words):
+    start, clock, high = spent(), time.monotonic(), 0
+    # A Bochs that was built with its debugger waits for the command c.
+    with open(debugger) as command_in:
+        process = subprocess.Popen(words, stdin=command_in, stdout=subprocess.DEVNULL, stderr=subprocess.DEVNULL)
     while process.poll() is None:
         with open(f"/proc/{process.pid}/status") as status:
             if (found := re.search(r"VmHWM:\s*(\d+)", status.read())):
                 high = int(found.group(1))
+        if time.monotonic() - clock > 60:
+            process.kill()
+            process.wait()
+            return None, high
         time.sleep(0.001)
-    best = max(best, int(ticks) / (spent() - start))
-    peak = max(peak, high)
-    if process.returncode != 0:
+    if words[0] == program and process.returncode != 0:
         sys.exit(f"bench: the program ended with {process.returncode}")
-print(best, peak)
-PY
-    )
-    report "$1" "${result% *}" ticks ", ${result#* } KB at most"
-}
+    return spent() - start, high
 
-ticks=20000000
-printf '\xcd\xf5' > "$work/halted.bin"                                # the soft hlt
-printf '\xb0\x41\x66\xba\xf8\x03\xee\xeb\xfd' > "$work/sends.bin"    # out to 3F8h and a jump back to it
-measure "a loop of two instructions" examples/loop.bin
-measure "a computation in C, then a jump to itself" examples/compute/compute.bin
-measure "a halted guest: devices and lines alone" "$work/halted.bin"
-measure "writes to COM1, one line in 32 ticks" "$work/sends.bin"
+for _ in range(20):
+    for words in measured:
+        if words[0] in endless:
+            continue
+        taken, high = run(words[1:])
+        if taken is None:
+            endless.add(words[0])
+        else:
+            seconds[words] = min(taken, seconds.get(words, taken))
+            peak[words] = max(high, peak.get(words, 0))
 
-# A floppy disk that runs the loop so often.
-disk() {
-    as --32 --defsym COUNT="$1" bench/loop.s -o "$work/loop.o"
-    ld -m elf_i386 -Ttext=0x7c00 --oformat binary "$work/loop.o" -o "$2" 2>/dev/null
-    truncate -s 1474560 "$2"
-}
+def report(name, rate, unit, loop, rest=""):
+    print(f"{name:46} {rate / 1e6:7.2f} million {unit} per second, {rate / loop:.2f} of the loop{rest}")
 
-# An emulator's rate is the difference of two runs, so that its start doesn't count. Each run ends within a minute.
-few=100000
-many=60100000
-compare() {
-    local name=$1
-    shift
-    local rate
-    rate=$(python3 - "$name" "$few" "$many" "$work/few.img" "$work/many.img" "$@" <<'PY'
-import resource, subprocess, sys
-def spent():
-    usage = resource.getrusage(resource.RUSAGE_CHILDREN)
-    return usage.ru_utime + usage.ru_stime
-name, few, many, few_image, many_image, *command = sys.argv[1:]
-def seconds(image):
-    start = spent()
-    words = [word.replace("DISK", image) for word in command]
-    subprocess.run(words, stdin=subprocess.DEVNULL, stdout=subprocess.DEVNULL, stderr=subprocess.DEVNULL, timeout=60)
-    return spent() - start
-try:
-    taken = seconds(many_image) - seconds(few_image)
-    if taken > 0.01:
-        print(2 * (int(many) - int(few)) / taken)
+loop = ticks / seconds[measured[0]]
+for words in [words for words in measured if words[1] == program]:
+    report(words[0], ticks / seconds[words], "ticks", loop, f", {peak[words]} KB at most")
+emulated = [words for words in measured if words[1] != program]
+for short, long in zip(emulated[::2], emulated[1::2]):
+    if short[0] in endless:
+        print(f"{short[0]}: no end within a minute", file=sys.stderr)
+    elif seconds[long] - seconds[short] < 0.01:
+        print(f"{short[0]}: it didn't run the loop here", file=sys.stderr)
     else:
-        print(f"{name}: it didn't run the loop here", file=sys.stderr)
-except subprocess.TimeoutExpired:
-    print(f"{name}: no end within a minute", file=sys.stderr)
+        report(f"{short[0]}, the same loop", 2 * (many - few) / (seconds[long] - seconds[short]), "instructions", loop)
 PY
-    )
-    [ -z "$rate" ] || report "$name, the same loop" "$rate" instructions
-}
-
-if command -v as >/dev/null && command -v ld >/dev/null; then
-    disk "$few" "$work/few.img"
-    disk "$many" "$work/many.img"
-    if command -v qemu-system-i386 >/dev/null; then
-        single="-accel tcg,one-insn-per-tb=on"
-        if qemu-system-i386 --help | grep -- -singlestep > /dev/null; then
-            single=-singlestep
-        fi
-        compare "QEMU, one instruction at a time" qemu-system-i386 -display none -serial none -monitor none -nodefaults \
-            -device isa-debug-exit,iobase=0xf4 -drive file=DISK,format=raw,if=floppy -icount shift=0,sleep=off $single
-    else
-        echo "QEMU: skipped, not installed"
-    fi
-    if ! command -v bochs >/dev/null; then
-        echo "Bochs: skipped, not installed"
-    elif [ ! -f "${BXSHARE:-}/BIOS-bochs-latest" ]; then
-        echo "Bochs: skipped, BXSHARE doesn't name the folder of its BIOS"
-    else
-        compare "Bochs" bochs -q -n "display_library: nogui" "megs: 32" "floppya: 1_44=DISK, status=inserted" "boot: floppy" \
-            "romimage: file=$BXSHARE/BIOS-bochs-latest" "vgaromimage: file=$BXSHARE/VGABIOS-lgpl-latest"
-    fi
-else
-    echo "QEMU and Bochs: skipped, no assembler or linker for their disk"
-fi
