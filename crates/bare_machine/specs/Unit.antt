@@ -81,7 +81,7 @@ own_gate t number next b = let g = gated number next t b.registers b.soft b.side
 
 abbrev pub gate : ℕ → ℕ → ℕ → Bare → UnitOutcome
 gate t number next b =
-    if number == 246 && is_served b.services (eax b.registers) then served_by t (eax b.registers) b (onward next b)
+    if number == 0xf6 && is_served b.services (eax b.registers) then served_by t (eax b.registers) b (onward next b)
     else own_gate t number next b
 
 -- COM1 after a unit or a device step; where its line rose, line 4 is asked

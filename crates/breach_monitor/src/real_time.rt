@@ -9,7 +9,7 @@ ghost use Rattle.breach_monitor.specs.RealTimeUnit.{on_flag, used, real_time, re
 
 use crate::RealTimeBus;
 use cpu_state::{Privileged, Registers};
-use i386_execute::{Stepped, after, privileged, step};
+use i386_execute::{DIVIDE_ERROR, Stepped, after, privileged, step};
 use port_board::Board;
 
 /// Why a real-time activity can't go on.
@@ -46,9 +46,6 @@ pub enum RealTimeUnit {
 const GATE: u8 = 0xf8;
 
 const RETURN: u8 = 0xf9;
-
-/// The exception of the divide error (Intel 80386 manual, section 9.8.1).
-const DIVIDE_ERROR: u8 = 0;
 
 fn interrupted(vector: u8, next: u32) -> RealTimeUnit
     ensures { result ≡ real_time_interrupt vector next }

@@ -3,6 +3,7 @@ use Rattle.std.proofs.Common.{◌≡◌, ℕ, zero, suc, ◌+◌, ◌<◌, ◌�
 use Rattle.std.proofs.lemmas.Bool.Decides.{nat_tests}
 use Rattle.std.proofs.lemmas.List.Sums.{sum_by-set, count_by-le-length}
 use Rattle.priority_schedule.specs.Due.{Thread, Ready, with_state}
+use Rattle.priority_schedule.specs.Limits.{threads_limit}
 use Rattle.priority_schedule.specs.Release.{Ticking, Due, due_held, due_at, nearest, come, with_released, after_one, released, drained}
 use Rattle.priority_schedule.specs.State.{thread_at, with_thread}
 use Rattle.priority_schedule.proofs.Dues.{come_of, come_by, all_above}
@@ -61,7 +62,7 @@ none_left (suc k) t s h =
       | Some d ↦ λ e. let f = one_fewer t s.real.threads d e in none_left k t (with_released d s) (omega (arith, f, h))
     ] refl
 
-pub all_released : (t : ℕ) (s : Ticking) → length s.real.threads ≤ 64 → (i : ℕ) → IfSome (due_at (drained true t s).real.threads i) (λ due. t < due)
+pub all_released : (t : ℕ) (s : Ticking) → length s.real.threads ≤ threads_limit → (i : ℕ) → IfSome (due_at (drained true t s).real.threads i) (λ due. t < due)
 all_released t s h i =
     let few = count_by-le-length (slot_comes t) s.real.threads in
-    all_above t (released 64 t s).real.threads (none_left 64 t s (omega (arith, few, h))) i
+    all_above t (released threads_limit t s).real.threads (none_left threads_limit t s (omega (arith, few, h))) i

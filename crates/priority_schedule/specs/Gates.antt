@@ -11,6 +11,8 @@ use Rattle.line_kinds.specs.declared.kinds.Who.TheVariants.{Guest, Thread as Thr
 use Rattle.machine_parts.specs.Processor.{starting}
 use Rattle.machine_parts.specs.Ranges.{first_outside}
 use Rattle.run_lines.specs.Gates.{GateName, Gethrtime, PthreadCreate, PthreadDelete, PthreadSuspend, PthreadWakeup, PthreadMakePeriodic, PthreadWait, PthreadSelf, PthreadSetprio, PthreadGetprio, FifoCreate, FifoDestroy, FifoPut, FifoGet, FifoFlush, FifoCreateHandler, FifoCount, RequestIrq, FreeIrq, GetSoftIrq, FreeSoftIrq, PendIrq, Nanosleep, Print, Other}
+use Rattle.run_lines.specs.Limits.{bytes_limit, span_limit}
+use Rattle.priority_schedule.specs.Limits.{highest_priority, latest_start, fifos_limit, fifo_limit}
 use Rattle.priority_schedule.specs.Errors.{eagain, ebusy, enodev, einval}
 use Rattle.priority_schedule.specs.Due.{Thread, Ready, Waiting, Suspended, with_state}
 use Rattle.priority_schedule.specs.Fifos.{Fifo, FifoReply, fifo_at, put_reply, get_reply}
@@ -61,7 +63,7 @@ created t q m (Some i) = succeeds i (record m {
 -- it has the lowest free number, and is ready, last
 abbrev pub pthread_create : ℕ → Request → RealTime → Answered
 pthread_create t q m =
-    if nat_lt 255 q.ecx || not (nat_le 4 q.edx && inside m.side (q.edx - 4) 4) then fails einval m
+    if nat_lt highest_priority q.ecx || not (nat_le 4 q.edx && inside m.side (q.edx - 4) 4) then fails einval m
     else created t q m (position is_none m.threads)
 
 -- 3: a thread is gone from every list
@@ -84,7 +86,7 @@ waiting i due m = record m { threads = with_thread i (with_state (Waiting due)) 
 
 -- a period or a sleep is of 1 to 1,000,000,000 ticks
 abbrev pub is_span : ℕ → Bool
-is_span n = nat_le 1 n && nat_le n 1000000000
+is_span n = nat_le 1 n && nat_le n span_limit
 
 -- 6: a thread has the period EDX and its next due at ECX, until which it waits
 abbrev pub with_period : ℕ → ℕ → Thread → Thread
@@ -92,7 +94,7 @@ with_period start period thread = record thread { state = Waiting start; period 
 
 abbrev pub pthread_make_periodic : Request → RealTime → Answered
 pthread_make_periodic q m = on_live q.ebx m (
-    if is_span q.edx && nat_le q.ecx 2000000000
+    if is_span q.edx && nat_le q.ecx latest_start
     then succeeds 0 (record m { threads = with_thread q.ebx (with_period q.ecx q.edx) m.threads; ready = without q.ebx m.ready })
     else fails einval m)
 
@@ -120,7 +122,7 @@ with_priority priority thread = record thread { priority = priority }
 
 abbrev pub pthread_setprio : Request → RealTime → Answered
 pthread_setprio q m = on_live q.ebx m (
-    if nat_lt 255 q.ecx then fails einval m
+    if nat_lt highest_priority q.ecx then fails einval m
     else succeeds 0 (record m { threads = with_thread q.ebx (with_priority q.ecx) m.threads }))
 
 -- 23: the calling thread waits EBX ticks from now on; its period and next due stay
@@ -138,7 +140,7 @@ with_fifo f fifo m = record m { fifos = slice_set m.fifos f fifo }
 -- 11: FIFO EBX of 0 to 63 holds up to ECX bytes, 1 to 16,384
 abbrev pub fifo_create : Request → RealTime → Answered
 fifo_create q m =
-    if nat_lt 63 q.ebx || not (nat_le 1 q.ecx && nat_le q.ecx 16384) then fails einval m
+    if nat_le fifos_limit q.ebx || not (nat_le 1 q.ecx && nat_le q.ecx fifo_limit) then fails einval m
     else if is_some (fifo_at m.fifos q.ebx) then fails ebusy m
     else succeeds 0 (with_fifo q.ebx (Some (new_fifo q.ecx)) m)
 
@@ -218,7 +220,7 @@ range_of q _ = None
 abbrev pub gate_in : ℕ → Who → Request → RealTime → GateName → Option Range → Option Answered
 gate_in t who q m gate None = Some (gate_row t who q m gate)
 gate_in t who q m gate (Some range) =
-    if nat_lt 256 range.count then Some (fails einval m)
+    if nat_lt bytes_limit range.count then Some (fails einval m)
     else if is_some (first_outside m.side range.place range.count) then None
     else Some (gate_row t who q m gate)
 

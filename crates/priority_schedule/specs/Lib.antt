@@ -1,4 +1,5 @@
 pub mod Errors
+pub mod Limits
 pub mod Due
 pub mod Fifos
 pub mod State

@@ -8,6 +8,7 @@ use Rattle.line_kinds.specs.declared.kinds.Who.TheVariants.{Guest, Thread}
 use Rattle.run_lines.specs.Gates.{GateName, PthreadCreate, PthreadDelete, PthreadSuspend, PthreadWakeup, PthreadMakePeriodic, PthreadWait, PthreadSetprio, Nanosleep, gate_of}
 use Rattle.run_lines.specs.Says.{ebx_of, holder}
 use Rattle.run_lines.specs.Ticks.{at_tick}
+use Rattle.priority_schedule.specs.Limits.{threads_limit}
 
 -- what the lines so far say: who holds the processor, the priority of each live thread, and the ready threads
 pub record Seen : Type 0 where
@@ -16,7 +17,7 @@ pub record Seen : Type 0 where
   pub ready : List ℕ
 
 abbrev pub nothing_seen : Seen
-nothing_seen = record { who = None; priorities = replicate 64 None; ready = [] }
+nothing_seen = record { who = None; priorities = replicate threads_limit None; ready = [] }
 
 abbrev pub ecx_of : List ℕ → ℕ
 ecx_of words = slice_index words 1

@@ -4,6 +4,7 @@ use Rattle.line_kinds.specs.declared.kinds.RLine.{RLine}
 use Rattle.line_kinds.specs.declared.kinds.RLine.TheVariants.{Release}
 use Rattle.line_kinds.specs.declared.kinds.Who.{Who}
 use Rattle.line_kinds.specs.declared.kinds.Who.TheVariants.{Guest, Thread as ThreadOn, Init, Irq, Fifo as FifoOn}
+use Rattle.priority_schedule.specs.Limits.{threads_limit}
 use Rattle.priority_schedule.specs.Due.{Thread, Ready, due_of, with_state}
 use Rattle.priority_schedule.specs.State.{RealTime, thread_at, with_thread, joined}
 
@@ -83,6 +84,6 @@ unfoldable pub released : ℕ → ℕ → Ticking → Ticking
 released zero t s = s
 released (suc k) t s = released k t (after_one (come t (nearest s.real.threads)) s)
 
--- the releases of tick t, where it drains. There are at most 64 threads
+-- the releases of tick t, where it drains
 abbrev pub drained : Bool → ℕ → Ticking → Ticking
-drained draining t s = if draining then released 64 t s else s
+drained draining t s = if draining then released threads_limit t s else s

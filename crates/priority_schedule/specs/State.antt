@@ -8,6 +8,7 @@ use Rattle.port_map.specs.Serial.{Serial}
 use Rattle.line_kinds.specs.declared.kinds.Who.{Who}
 use Rattle.machine_parts.specs.Processor.{starting}
 use Rattle.machine_parts.specs.SerialLine.{new_serial}
+use Rattle.priority_schedule.specs.Limits.{threads_limit, fifos_limit}
 use Rattle.priority_schedule.specs.Due.{Thread}
 use Rattle.priority_schedule.specs.Fifos.{Fifo}
 
@@ -55,10 +56,10 @@ first_state start = record {
   version = start.version;
   side = start.side;
   modules = numbered 0 start.inits;
-  threads = replicate 64 None;
+  threads = replicate threads_limit None;
   ready = [];
   irqs = no_lines;
-  fifos = replicate 64 None;
+  fifos = replicate fifos_limit None;
   com2 = new_serial;
   registers = starting 0 0 0 false;
   on = None;

@@ -5,7 +5,7 @@ ghost use Rattle.line_sets.specs.LineSet.{with_line};
 ghost use Rattle.port_map.specs.Serial.{rose};
 ghost use Rattle.port_map.specs.declared.owner.Owner.TheVariants as owner;
 ghost use Rattle.port_board.specs.Board.{accessed, rises_of};
-ghost use Rattle.breach_monitor.specs.GuestUnit.{answer_to};
+ghost use Rattle.breach_monitor.specs.GuestUnit.{answer_to, first_gate, last_gate};
 ghost use Rattle.i386_execute.specs.Unit.{address_behind};
 ghost use Rattle.soft_flags.specs.SoftFlags.{HasTableIn, is_open};
 ghost use Rattle.pending_irqs.specs.Pending.{lowest_enabled};
@@ -76,7 +76,7 @@ fn run_unit(memory: &mut FlatMemory, registers: &mut Registers, board: &mut Boar
     ensures real_time { memory.new.real_time ≡ memory.old.real_time }
     ensures size { length memory.new.guest ≡ length memory.old.guest }
     ensures unchanged { result ≢ GuestUnit.Next → (registers.new ≡ registers.old) × (memory.new ≡ memory.old) × (board.new ≡ board.old) }
-    ensures gate { (number next : ℕ) → result ≡ GuestUnit.Gate number next → (240 ≤ number) × (number ≤ 246) }
+    ensures gate { (number next : ℕ) → result ≡ GuestUnit.Gate number next → (first_gate ≤ number) × (number ≤ last_gate) }
 {
     unit_of_serial(Owner::Guest);
     unit_keeps_others(Owner::Guest);
@@ -101,7 +101,7 @@ fn perform(
     ensures real_time { memory.new.real_time ≡ memory.old.real_time }
     ensures size { length memory.new.guest ≡ length memory.old.guest }
     ensures unchanged { result ≢ GuestUnit.Next → (registers.new ≡ registers.old) × (memory.new ≡ memory.old) × (com1_of board.new ≡ com1_of board.old) × (pending.new ≡ pending.old) }
-    ensures gate { (number next : ℕ) → result ≡ GuestUnit.Gate number next → (240 ≤ number) × (number ≤ 246) }
+    ensures gate { (number next : ℕ) → result ≡ GuestUnit.Gate number next → (first_gate ≤ number) × (number ≤ last_gate) }
 {
     let unit = run_unit(memory, registers, board);
     mark(board.take_rises(), pending);
@@ -135,8 +135,8 @@ fn gate_on(
     soft: &mut SoftFlags,
     bytes: &mut [u8],
 ) -> GateUnit
-    requires first { 240 ≤ number }
-    requires last { number ≤ 246 }
+    requires first { first_gate ≤ number }
+    requires last { number ≤ last_gate }
     requires size { length bytes.old < 2 ^ 32 }
     requires table { HasTableIn soft.old (length bytes.old) }
     ensures gated { record { came = result; registers = registers.new; flags = soft.new; side = side_at 0 bytes.new } ≡ gated number next now registers.old soft.old (side_at 0 bytes.old) }
@@ -224,8 +224,8 @@ fn perform_gate(
     registers: &mut Registers,
     guest: &mut Guest,
 ) -> Option<GLine>
-    requires first { 240 ≤ number }
-    requires last { number ≤ 246 }
+    requires first { first_gate ≤ number }
+    requires last { number ≤ last_gate }
     requires size { length memory.old.guest < 2 ^ 32 }
     requires table { HasTableIn guest.old.soft (length memory.old.guest) }
     ensures outcome { (com1 : _) → gate_of now number next (bare_with memory.old registers.old com1 guest.old) ≡ Done (bare_with memory.new registers.new com1 guest.new) (listed result) }

@@ -4,6 +4,7 @@ use Rattle.std.proofs.lemmas.List.Sums.{fold-append}
 use Rattle.machine_parts.specs.SerialLine.{byte_sent}
 use Rattle.device_script.specs.declared.event.Event.{Event}
 use Rattle.priority_schedule.specs.Pick.{pick}
+use Rattle.priority_schedule.specs.Limits.{threads_limit}
 use Rattle.priority_schedule.specs.Release.{Ticking, Due, nearest, come, after_one, released, drained, drains}
 use Rattle.priority_schedule.specs.State.{RealTime}
 use Rattle.priority_schedule.specs.Tick.{begun, com2_lines, after_devices, devices, is_on, started, turned_to, picked, opened, real_time_tick}
@@ -46,7 +47,7 @@ turned_calm who s h = if_calm (is_on who s.real.on) s (record { real = record (s
 })
 
 drained_calm : (draining : Bool) (t : ℕ) (s : Ticking) → Calm s → Calm (drained draining t s)
-drained_calm draining t s h = if_calm draining (released 64 t s) s (released_calm 64 t s h) h
+drained_calm draining t s h = if_calm draining (released threads_limit t s) s (released_calm threads_limit t s h) h
 
 pub opened_calm : (t : ℕ) (events : List Event) (m : RealTime) → Calm (opened t events m)
 unfolding picked devices

@@ -29,6 +29,7 @@ use Rattle.priority_schedule.specs.Errors.{einval, ebusy}
 use Rattle.priority_schedule.specs.Fifos.{Fifo, fifo_at}
 use Rattle.priority_schedule.specs.Gates.{Request, Answered, fails, succeeds, created, woken, waited, on_fifo, deleted, suspended, waiting, with_period, is_span, with_next, with_priority, new_fifo, with_fifo, gate_row, Range, range_of, gate_in}
 use Rattle.priority_schedule.specs.Pick.{pick}
+use Rattle.priority_schedule.specs.Limits.{threads_limit, highest_priority}
 use Rattle.priority_schedule.specs.Release.{Ticking, Due, nearest, come, after_one, released, drained, drains}
 use Rattle.priority_schedule.specs.Run.{real_after, real_lines, real_end, real_time}
 use Rattle.priority_schedule.specs.State.{RealTime, RealTimeStart, first_state, thread_at, is_ready, with_thread, without, joined, priority_of}
@@ -137,7 +138,7 @@ row_held t (Irq i) q m PthreadSelf l = refl
 row_held t (FifoOn i) q m PthreadSelf l = refl
 row_held t who q m PthreadSetprio l =
     let done : Answered = succeeds 0 (record m { threads = with_thread q.ebx (with_priority q.ecx) m.threads }) in
-    either_held m _ (if nat_lt 255 q.ecx then fails einval m else done) (fails einval m) (either_held m _ (fails einval m) done refl refl) refl
+    either_held m _ (if nat_lt highest_priority q.ecx then fails einval m else done) (fails einval m) (either_held m _ (fails einval m) done refl refl) refl
 row_held t who q m PthreadGetprio l = either_held m _ (succeeds (priority_of m.threads q.ebx) m) (fails einval m) refl refl
 row_held t who q m FifoCreate l =
     let done : Answered = succeeds 0 (with_fifo q.ebx (Some (new_fifo q.ecx)) m) in
@@ -342,7 +343,7 @@ turned_holds lines who s h =
     (subst (λ n. Holds (started who s.real).irqs.entries n) (sym (fold-append after_owner lines s.lines (On who ∷ []))) (same_handlers s.real.irqs.entries _ _ (started_held who s.real) h))
 
 drained_holds : (lines : ℕ) (draining : Bool) (t : ℕ) (s : Ticking) → TickHolds lines s → TickHolds lines (drained draining t s)
-drained_holds lines draining t s h = if_ticking (TickHolds lines) draining (released 64 t s) s (released_holds lines 64 t s h) h
+drained_holds lines draining t s h = if_ticking (TickHolds lines) draining (released threads_limit t s) s (released_holds lines threads_limit t s h) h
 
 opened_holds : (lines t : ℕ) (events : List Event) (m : RealTime) → Holds m.irqs.entries lines → TickHolds lines (opened t events m)
 unfolding picked devices

@@ -12,6 +12,7 @@ use Rattle.cpu_state.specs.declared.registers.Registers.{Registers}
 use Rattle.priority_schedule.specs.Gates.{Request, Answered}
 use Rattle.priority_schedule.specs.Pick.{pick, pick_after, next_activity, next_module, first_of_all, first_ready, is_marked, Place}
 use Rattle.priority_schedule.specs.Priority.{Seen, after_line, seen, seen_released, is_in, is_release, priority_seen, HoldsRightly, KeepsTick, KeepsPriority}
+use Rattle.priority_schedule.specs.Limits.{threads_limit}
 use Rattle.priority_schedule.specs.Release.{Ticking, Due, nearest, come, after_one, released, drained, drains}
 use Rattle.priority_schedule.specs.Run.{real_after, real_lines, real_end, real_time}
 use Rattle.priority_schedule.specs.State.{RealTime, RealTimeStart, Module, is_ready, priority_of, priority_in, first_state}
@@ -198,7 +199,7 @@ released_on zero t s = refl
 released_on (suc k) t s = released_on k t (after_one (come t (nearest s.real.threads)) s) ∙ one_on (come t (nearest s.real.threads)) s
 
 drained_on : (draining : Bool) (t : ℕ) (s : Ticking) → (drained draining t s).real.on ≡ s.real.on
-drained_on draining t s = elim draining as (λ b. (if b then released 64 t s else s).real.on ≡ s.real.on) [ true ↦ released_on 64 t s | false ↦ refl ]
+drained_on draining t s = elim draining as (λ b. (if b then released threads_limit t s else s).real.on ≡ s.real.on) [ true ↦ released_on threads_limit t s | false ↦ refl ]
 
 devices_on : (events : List Event) (m : RealTime) → (devices events (begun m)).real.on ≡ m.on
 unfolding devices

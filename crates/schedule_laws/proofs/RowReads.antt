@@ -13,6 +13,7 @@ use Rattle.priority_schedule.specs.Errors.{einval, ebusy}
 use Rattle.priority_schedule.specs.Fifos.{Fifo, fifo_at, put_reply, get_reply}
 use Rattle.priority_schedule.specs.Gates.{Request, Answered, succeeds, fails, on_live, deleted, suspended, woken, waiting, new_thread, created, with_period, with_next, waited, of_thread, with_priority, pthread_setprio, nanosleep, on_fifo, fifo_taking, fifo_giving, with_fifo, gate_row, new_fifo, Range, range_of, gate_in, gate}
 use Rattle.priority_schedule.specs.Priority.{Seen, after_gate, after_result, caller_waits, is_in, joins, has_priority, ReadyLive}
+use Rattle.priority_schedule.specs.Limits.{highest_priority}
 use Rattle.priority_schedule.specs.State.{RealTime, thread_at, is_live, with_thread, without, joined, is_ready, priority_of}
 use Rattle.schedule_laws.proofs.Reading.{Reads, priorities, priorities-kept, priorities-set, ready-ids, reads_same, reads_left, reads_joined, reads_ended, ids-joined, priority_in_slot, joins_live, priority_live}
 
@@ -107,8 +108,8 @@ setprio_done q s m live r = record {
 setprio_reads : (q : Request) (s : Seen) (m : RealTime) → Reads m s → RowReads q s PthreadSetprio (pthread_setprio q m)
 setprio_reads q s m r =
     let done : Answered = succeeds 0 (record m { threads = with_thread q.ebx (with_priority q.ecx) m.threads }) in
-    elim (is_some (thread_at m.threads q.ebx)) as (λ b. is_some (thread_at m.threads q.ebx) ≡ b → RowReads q s PthreadSetprio (if b then (if nat_lt 255 q.ecx then fails einval m else done) else fails einval m)) [
-      | true ↦ λ live. either (RowReads q s PthreadSetprio) (nat_lt 255 q.ecx) (fails einval m) done r (setprio_done q s m live r)
+    elim (is_some (thread_at m.threads q.ebx)) as (λ b. is_some (thread_at m.threads q.ebx) ≡ b → RowReads q s PthreadSetprio (if b then (if nat_lt highest_priority q.ecx then fails einval m else done) else fails einval m)) [
+      | true ↦ λ live. either (RowReads q s PthreadSetprio) (nat_lt highest_priority q.ecx) (fails einval m) done r (setprio_done q s m live r)
       | false ↦ λ dead. r
     ] refl
 

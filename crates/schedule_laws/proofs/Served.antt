@@ -12,6 +12,7 @@ use Rattle.priority_schedule.specs.Pick.{pick}
 use Rattle.pic_8259.specs.Boot.{acknowledge_order}
 use Rattle.rt_irqs.specs.Irqs.{handler_order}
 use Rattle.hardware_lines.specs.Timely.{Ahead, Timely, IsTimely}
+use Rattle.priority_schedule.specs.Limits.{threads_limit}
 use Rattle.priority_schedule.specs.Release.{Ticking, Due, nearest, come, after_one, released, drained, drains}
 use Rattle.priority_schedule.specs.State.{RealTime, RealTimeStart, first_state as first_real}
 use Rattle.priority_schedule.specs.Run.{real_after}
@@ -107,7 +108,7 @@ none_released zero t s h = refl
 none_released (suc k) t s h = ap (λ o. released k t (after_one o s)) h ∙ none_released k t s h
 
 pub none_drained : (draining : Bool) (t : ℕ) (s : Ticking) → come t (nearest s.real.threads) ≡ None → drained draining t s ≡ s
-none_drained draining t s h = elim draining as (λ b. (if b then released 64 t s else s) ≡ s) [ true ↦ none_released 64 t s h | false ↦ refl ]
+none_drained draining t s h = elim draining as (λ b. (if b then released threads_limit t s else s) ≡ s) [ true ↦ none_released threads_limit t s h | false ↦ refl ]
 
 -- a thread's due is no nearer than the nearest
 not_come : (t : ℕ) (rise : Option ℕ) (o : Option Due) (guest : Option ℕ) → Ahead t rise → Timely false rise t (earlier_due (time_of o) guest) → come t o ≡ None

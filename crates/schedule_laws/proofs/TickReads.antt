@@ -9,6 +9,7 @@ use Rattle.device_script.specs.declared.event.Event.{Event}
 use Rattle.cpu_state.specs.declared.registers.Registers.{Registers}
 use Rattle.priority_schedule.specs.Gates.{Request, Answered}
 use Rattle.priority_schedule.specs.Priority.{Seen, after_line, thread_ends, is_release, joins}
+use Rattle.priority_schedule.specs.Limits.{threads_limit}
 use Rattle.priority_schedule.specs.Release.{Ticking, Due, nearest, come, with_released, after_one, released, drained}
 use Rattle.priority_schedule.specs.State.{RealTime, is_live}
 use Rattle.priority_schedule.specs.Tick.{begun, com2_lines, after_devices, devices}
@@ -148,4 +149,4 @@ if_ticking P true x y p q = p
 if_ticking P false x y p q = q
 
 pub drained_reads : (draining : Bool) (t : ℕ) (s : Ticking) (z : Seen) → Releases z s → Releases z (drained draining t s)
-drained_reads draining t s z h = if_ticking (Releases z) draining (released 64 t s) s (released_reads 64 t s z h) h
+drained_reads draining t s z h = if_ticking (Releases z) draining (released threads_limit t s) s (released_reads threads_limit t s z h) h

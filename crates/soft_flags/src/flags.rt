@@ -3,7 +3,7 @@ ghost use Rattle.std.specs.Prelude.{◌≡◌, true, false, not};
 ghost use Rattle.soft_flags.specs.SoftFlags.{first_flags, is_open, table_answer, with_table, HasTableIn};
 
 /// The refusal of an argument, as Linux numbers it.
-const EINVAL: i32 = 22;
+pub const EINVAL: i32 = 22;
 
 /// The most entries of a descriptor table, one for each vector.
 const TABLE_ENTRIES: u32 = 256;

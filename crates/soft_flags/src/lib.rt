@@ -4,4 +4,4 @@
 
 mod flags;
 
-pub use flags::SoftFlags;
+pub use flags::{EINVAL, SoftFlags};

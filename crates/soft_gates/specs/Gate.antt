@@ -124,10 +124,10 @@ served s side = finished s.registers s.flags side
 -- the gate of a number, F0h to F6h
 unfoldable pub gated : ℕ → ℕ → ℕ → Registers → SoftFlags → Side → Gated
 gated number next now r f side =
-    if number == 240 then cli next r f side
-    else if number == 241 then sti next r f side
-    else if number == 242 then iret r f side
-    else if number == 243 then pushf next r f side
-    else if number == 244 then popf next r f side
-    else if number == 245 then hlt next r f side
+    if number == 0xf0 then cli next r f side
+    else if number == 0xf1 then sti next r f side
+    else if number == 0xf2 then iret r f side
+    else if number == 0xf3 then pushf next r f side
+    else if number == 0xf4 then popf next r f side
+    else if number == 0xf5 then hlt next r f side
     else served (service (length side.bytes) next now r f) side

@@ -125,8 +125,8 @@ pub fn gate(
     flags: &mut SoftFlags,
     side: &mut Side<'_>,
 ) -> GateUnit
-    requires first { 240 ≤ number }
-    requires last { number ≤ 246 }
+    requires first { 0xf0 ≤ number }
+    requires last { number ≤ 0xf6 }
     requires size { length (side_of side.old).bytes < 2 ^ 32 }
     ensures gated { record { came = result; registers = regs.new; flags = flags.new; side = side_of side.new } ≡ gated number next now regs.old flags.old (side_of side.old) }
     ensures first { side.new.first ≡ side.old.first }

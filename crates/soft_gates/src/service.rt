@@ -5,7 +5,7 @@ ghost use Rattle.soft_flags.specs.SoftFlags.{HasTableIn};
 ghost use Rattle.soft_gates.specs.Gate.{service as service_of};
 
 use cpu_state::{EAX, EBX, ECX, Registers};
-use soft_flags::SoftFlags;
+use soft_flags::{EINVAL, SoftFlags};
 
 /// The functions, by EAX.
 const LOAD_IDT: u32 = 1;
@@ -13,9 +13,6 @@ const LOAD_IDT: u32 = 1;
 const MASK: u32 = 2;
 
 const TIME: u32 = 6;
-
-/// The refusal of a function that there is not, as Linux numbers it.
-const EINVAL: i32 = 22;
 
 // A result as EAX has it.
 fn as_register(outcome: i32) -> u32
