@@ -36,12 +36,13 @@ rom() {
     ld -m elf_i386 -Ttext=0 --oformat binary "$work/loop.o" -o "$work/$1.rom" 2>/dev/null
 }
 
-# An emulator's rate is the difference of a run with many turns of the loop and one with few, so that its start doesn't count.
+# An emulator's rate is the difference of a run with many turns of the loop and one with few, so that its start doesn't count. In its
+# words @ROM@ stands for the ROM.
 emulator() {
     local name=$1
     shift
-    measure "$name" "${@/ROM/$work/$few.rom}"
-    measure "$name" "${@/ROM/$work/$many.rom}"
+    measure "$name" "${@/@ROM@/$work/$few.rom}"
+    measure "$name" "${@/@ROM@/$work/$many.rom}"
 }
 
 if command -v as > /dev/null && command -v ld > /dev/null; then
@@ -53,7 +54,7 @@ if command -v as > /dev/null && command -v ld > /dev/null; then
             single=(-singlestep)
         fi
         emulator "QEMU, one instruction at a time" qemu-system-i386 -display none -serial none -monitor none -nodefaults \
-            -device isa-debug-exit,iobase=0xf4 -bios ROM -icount shift=0,sleep=off "${single[@]}"
+            -device isa-debug-exit,iobase=0xf4 -bios @ROM@ -icount shift=0,sleep=off "${single[@]}"
     else
         echo "QEMU: skipped, not installed"
     fi
@@ -61,8 +62,8 @@ if command -v as > /dev/null && command -v ld > /dev/null; then
         # A build without the display that shows nothing gets that of a terminal.
         settings="$work/bochs.settings"
         printf '%s\n' "display_library: nogui" "megs: 32" "log: $work/bochs.log" > "$settings"
-        bochs=(env TERM=xterm bochs -q -f "$settings" "romimage: file=ROM, address=0xffff0000")
-        "${bochs[@]/ROM/$work/$few.rom}" <<< c > "$work/bochs.out" 2>&1 || true
+        bochs=(env TERM=xterm bochs -q -f "$settings" "romimage: file=@ROM@, address=0xffff0000")
+        timeout 60 "${bochs[@]/@ROM@/$work/$few.rom}" <<< c > "$work/bochs.out" 2>&1 || true
         if grep "not available" "$work/bochs.out" > /dev/null; then
             sed -i 's/nogui/term/' "$settings"
         fi
