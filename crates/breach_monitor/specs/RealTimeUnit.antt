@@ -9,8 +9,8 @@ use Rattle.i386_execute.specs.OwnFlag.{flag_unit}
 use Rattle.i386_execute.specs.Unit.{Effect, unit, address_behind}
 use Rattle.i386_execute.specs.declared.unit.Stepped.{Stepped}
 use Rattle.i386_execute.specs.declared.unit.Stepped.TheVariants.{Next as Performed, Trap, Interrupt, Privileged as Uses, Outside, Port as OwnedPort}
-use Rattle.breach_monitor.specs.declared.real_time.Fault.{Fault}
-use Rattle.breach_monitor.specs.declared.real_time.Fault.TheVariants.{Divide, Opcode, Int, Memory, Port, Privileged}
+use Rattle.line_kinds.specs.declared.kinds.FaultKind.{FaultKind}
+use Rattle.line_kinds.specs.declared.kinds.FaultKind.TheVariants.{Divide, Opcode, Int, Memory, Port, Privileged}
 use Rattle.breach_monitor.specs.declared.real_time.RealTimeUnit.{RealTimeUnit}
 use Rattle.breach_monitor.specs.declared.real_time.RealTimeUnit.TheVariants.{Next, Gate, Return, Fault as Faults}
 
@@ -24,7 +24,7 @@ pub record Outcome (D : Type 0) : Type 0 where
 abbrev pub answered : {D : Type 0} → RealTimeUnit → Registers → State D → Outcome D
 answered answer regs st = record { answer = answer; registers = regs; bus = st }
 
-abbrev pub faulted : {D : Type 0} → Fault → Registers → State D → Outcome D
+abbrev pub faulted : {D : Type 0} → FaultKind → Registers → State D → Outcome D
 faulted fault regs st = answered (Faults fault) regs st
 
 -- a unit that was performed
@@ -36,7 +36,7 @@ abbrev pub real_time_interrupt : ℕ → ℕ → RealTimeUnit
 real_time_interrupt vector next = if vector == 0xF8 then Gate next else if vector == 0xF9 then Return else Faults Int
 
 -- exception 0 is the divide error, and the only other one the invalid opcode
-abbrev pub trapped : ℕ → Fault
+abbrev pub trapped : ℕ → FaultKind
 trapped vector = if vector == 0 then Divide else Opcode
 
 -- an instruction on the registers' own flag is performed, or its access lies outside

@@ -16,4 +16,5 @@ pub use laws::{
     access_leaves_others, real_time_keeps_others, real_time_of_serial, unit_keeps_others,
     unit_of_serial,
 };
-pub use real_time::{Fault, RealTimeUnit, real_time_unit, real_time_unit_on};
+pub use line_kinds::FaultKind as Fault;
+pub use real_time::{RealTimeUnit, real_time_unit, real_time_unit_on};

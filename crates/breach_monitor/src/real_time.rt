@@ -10,24 +10,8 @@ ghost use Rattle.breach_monitor.specs.RealTimeUnit.{on_flag, used, real_time, re
 use crate::RealTimeBus;
 use cpu_state::{Privileged, Registers};
 use i386_execute::{DIVIDE_ERROR, Stepped, after, privileged, step};
+use line_kinds::FaultKind;
 use port_board::Board;
-
-/// Why a real-time activity can't go on.
-#[derive(Clone, Copy, Debug, PartialEq, Eq)]
-pub enum Fault {
-    /// the divide error
-    Divide,
-    /// bytes that are no instruction
-    Opcode,
-    /// an interrupt other than F8h and F9h, INT3, or INTO with OF set
-    Int,
-    /// a fetch or an access outside its side
-    Memory,
-    /// a port of another owner
-    Port,
-    /// IRET or HLT
-    Privileged,
-}
 
 /// What a unit of a real-time activity comes to. Only in the first case anything was changed by it.
 #[derive(Clone, Copy, Debug, PartialEq, Eq)]
@@ -39,7 +23,7 @@ pub enum RealTimeUnit {
     /// The activity returns.
     Return,
     /// The activity is to be stopped.
-    Fault(Fault),
+    Fault(FaultKind),
 }
 
 /// The vectors of the real-time gate and of the return.
@@ -53,16 +37,16 @@ fn interrupted(vector: u8, next: u32) -> RealTimeUnit
     match vector {
         GATE => RealTimeUnit::Gate(next),
         RETURN => RealTimeUnit::Return,
-        _ => RealTimeUnit::Fault(Fault::Int),
+        _ => RealTimeUnit::Fault(FaultKind::Int),
     }
 }
 
-fn trapped(vector: u8) -> Fault
+fn trapped(vector: u8) -> FaultKind
     ensures { result ≡ trapped vector }
 {
     match vector {
-        DIVIDE_ERROR => Fault::Divide,
-        _ => Fault::Opcode,
+        DIVIDE_ERROR => FaultKind::Divide,
+        _ => FaultKind::Opcode,
     }
 }
 
@@ -85,7 +69,7 @@ fn on_flag(
 {
     match privileged(kind, count, regs, bus) {
         Stepped::Next => RealTimeUnit::Next,
-        _ => RealTimeUnit::Fault(Fault::Memory),
+        _ => RealTimeUnit::Fault(FaultKind::Memory),
     }
 }
 
@@ -110,8 +94,8 @@ fn used(
         Privileged::Sti => on_flag(kind, count, regs, bus),
         Privileged::Pushf => on_flag(kind, count, regs, bus),
         Privileged::Popf => on_flag(kind, count, regs, bus),
-        Privileged::Iret => RealTimeUnit::Fault(Fault::Privileged),
-        Privileged::Hlt => RealTimeUnit::Fault(Fault::Privileged),
+        Privileged::Iret => RealTimeUnit::Fault(FaultKind::Privileged),
+        Privileged::Hlt => RealTimeUnit::Fault(FaultKind::Privileged),
     }
 }
 
@@ -135,8 +119,8 @@ pub fn real_time_unit(regs: &mut Registers, bus: &mut RealTimeBus<'_>) -> RealTi
         Stepped::Trap(vector) => RealTimeUnit::Fault(trapped(vector)),
         Stepped::Interrupt(vector) => interrupted(vector, after(regs, bus)),
         Stepped::Privileged(kind, count) => used(kind, count, regs, bus),
-        Stepped::Outside(_, _) => RealTimeUnit::Fault(Fault::Memory),
-        Stepped::Port(_) => RealTimeUnit::Fault(Fault::Port),
+        Stepped::Outside(_, _) => RealTimeUnit::Fault(FaultKind::Memory),
+        Stepped::Port(_) => RealTimeUnit::Fault(FaultKind::Port),
     }
 }
 

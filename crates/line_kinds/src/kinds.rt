@@ -23,7 +23,7 @@ pub enum FaultKind {
     Divide,
     /// bytes that are no instruction
     Opcode,
-    /// an interrupt that isn't a gate
+    /// an interrupt other than F8h and F9h, INT3, or INTO with OF set
     Int,
     /// an access or a fetch outside its side
     Memory,

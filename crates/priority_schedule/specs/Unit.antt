@@ -9,12 +9,10 @@ use Rattle.rt_irqs.specs.Irqs.{Lines, is_held, freed}
 use Rattle.port_map.specs.Serial.{Serial, serial_ports, rose}
 use Rattle.port_map.specs.declared.owner.Owner.TheVariants.{RealTime as RealTimeOwner}
 use Rattle.breach_monitor.specs.RealTimeUnit.{Outcome, real_time as real_time_outcome}
-use Rattle.breach_monitor.specs.declared.real_time.Fault.{Fault as FaultOf}
-use Rattle.breach_monitor.specs.declared.real_time.Fault.TheVariants.{Divide as DivideOf, Opcode as OpcodeOf, Int as IntOf, Memory as MemoryOf, Port as PortOf, Privileged as PrivilegedOf}
 use Rattle.breach_monitor.specs.declared.real_time.RealTimeUnit.{RealTimeUnit}
 use Rattle.breach_monitor.specs.declared.real_time.RealTimeUnit.TheVariants.{Next, Gate as Gates, Return, Fault as Faults}
 use Rattle.line_kinds.specs.declared.kinds.FaultKind.{FaultKind}
-use Rattle.line_kinds.specs.declared.kinds.FaultKind.TheVariants.{Divide, Opcode, Int, Memory, Port, Privileged}
+use Rattle.line_kinds.specs.declared.kinds.FaultKind.TheVariants.{Memory}
 use Rattle.line_kinds.specs.declared.kinds.RLine.{RLine}
 use Rattle.line_kinds.specs.declared.kinds.RLine.TheVariants.{Gate, Say, Ret, Fault, Reply}
 use Rattle.line_kinds.specs.declared.kinds.Who.{Who}
@@ -117,19 +115,11 @@ gate_unit t who next m =
 -- What the processor's unit came to: one instruction with CLI, STI, PUSHF and POPF on the activity's own IF, or the gate, the return,
 -- or the first fault, in the order in which `real_time` names them
 
-abbrev pub fault_kind : FaultOf → FaultKind
-fault_kind DivideOf = Divide
-fault_kind OpcodeOf = Opcode
-fault_kind IntOf = Int
-fault_kind MemoryOf = Memory
-fault_kind PortOf = Port
-fault_kind PrivilegedOf = Privileged
-
 abbrev pub came_to : ℕ → Who → Outcome Serial → RealTime → RealTimeUnit → RealUnit
 came_to t who o m Next = performed_unit who o m
 came_to t who o m (Gates next) = gate_unit t who next m
 came_to t who o m Return = return_unit who m
-came_to t who o m (Faults fault) = fault_unit who (fault_kind fault) m
+came_to t who o m (Faults fault) = fault_unit who fault m
 
 -- over the side and COM2, whose line is sampled after each access to it
 unfoldable pub outcome_at : Registers → Side → Serial → Outcome Serial

@@ -14,7 +14,7 @@ use Rattle.run_lines.specs.Gates.{gate_of}
 use Rattle.run_lines.specs.Says.{held_by}
 use Rattle.priority_schedule.specs.Gates.{Request, Answered, gate}
 use Rattle.priority_schedule.specs.State.{RealTime}
-use Rattle.priority_schedule.specs.Unit.{RealUnit, performed_unit, fault_unit, fault_kind, return_unit, gate_answer, registers_of, request_of, came_to, outcome_at, activity_unit, call_unit, unit_of, gate_line, printed_lines}
+use Rattle.priority_schedule.specs.Unit.{RealUnit, performed_unit, fault_unit, return_unit, gate_answer, registers_of, request_of, came_to, outcome_at, activity_unit, call_unit, unit_of, gate_line, printed_lines}
 
 -- a fact of the four kinds of unit is one of every unit
 pub record Kinds (t : ℕ) (who : Who) (m : RealTime) (P : RealUnit → Type 0) : Type 0 where
@@ -27,7 +27,7 @@ came_kind : (t : ℕ) (who : Who) (m : RealTime) (P : RealUnit → Type 0) → K
 came_kind t who m P k o Next = k.performing o
 came_kind t who m P k o (Gates next) = k.gating (at_eip next (registers_of who m)) (request_of (registers_of who m))
 came_kind t who m P k o Return = k.returning
-came_kind t who m P k o (Faults fault) = k.faulting (fault_kind fault)
+came_kind t who m P k o (Faults fault) = k.faulting fault
 
 pub every_kind : (t : ℕ) (who : Who) (m : RealTime) (P : RealUnit → Type 0) → Kinds t who m P → P (activity_unit t who m)
 unfolding activity_unit
