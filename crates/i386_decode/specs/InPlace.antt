@@ -1,8 +1,9 @@
 -- What is read into a form that stands in a place of its own.
 use Rattle.std.specs.Prelude.{ℕ, ◌+◌, List, [], ◌∷◌, length, drop, Bool, false}
-use Rattle.i386_decode.specs.Fields.{is_prefix}
+use Rattle.i386_decode.specs.Fields.{is_prefix, displacement_size, immediate_size, form_of}
 use Rattle.i386_decode.specs.Spelling.{entry_of}
-use Rattle.i386_decode.specs.Reading.{opcode_at, entry_read}
+use Rattle.i386_decode.specs.Reading.{number, finish, opcode_at, entry_read}
+use Rattle.i386_decode.specs.declared.row.Row.{Row}
 use Rattle.i386_decode.specs.declared.form.Repeat.{Repeat}
 use Rattle.i386_decode.specs.declared.form.Form.{Form}
 use Rattle.i386_decode.specs.declared.form.Extent.{Extent}
@@ -15,6 +16,13 @@ abbrev pub decoded_by : Extent → Form → Decoded
 decoded_by (extent.Whole n) form = decoded.Form form n
 decoded_by extent.Undefined form = decoded.Undefined
 decoded_by extent.Short form = decoded.Short
+
+-- what the displacement and the immediate that stand behind so many bytes come to
+abbrev pub numbers_at : Row → Bool → Repeat → ℕ → ℕ → ℕ → ℕ → List ℕ → Decoded
+numbers_at row narrow repeat used len m s bs =
+    let nd = displacement_size m s in
+    let ni = immediate_size row.immediate narrow in
+    finish (used + nd + ni) len (form_of row narrow repeat m s (number nd bs) (number ni (drop nd bs)))
 
 -- what stands behind the prefixes comes to
 abbrev pub read_at : List ℕ → Bool → Repeat → ℕ → ℕ → Decoded

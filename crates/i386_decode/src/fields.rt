@@ -1,6 +1,6 @@
 // The fields of an instruction: how long each is, and what they make of the operands.
 
-ghost use Rattle.std.specs.Prelude.{◌≡◌, ◌<◌, ◌≤◌, ◌+◌, ◌/◌, ◌%◌, drop, length, slice_index_or};
+ghost use Rattle.std.specs.Prelude.{◌≡◌, ◌<◌, ◌≤◌, ◌+◌, ◌/◌, ◌%◌, drop, length, slice_index_or, if◌then◌else◌};
 ghost use Rattle.i386_decode.specs.Fields.{reg, mode, rm, sib_size, displacement_size, immediate_size, modrm_size, is_memory_only, names_register, sign_extended, base_of, index_of, address_of, extended, operand_of, width_of, form_of};
 ghost use Rattle.i386_decode.specs.Reading.{number};
 
@@ -131,15 +131,11 @@ pub fn is_register(modrm: u8) -> bool
     mode_of(modrm) == REGISTER_MODE
 }
 
-/// How many SIB bytes follow a ModRM byte.
-pub fn sib_count(modrm: u8) -> usize
-    ensures { result ≡ sib_size modrm }
+/// Whether a SIB byte follows a ModRM byte.
+pub fn has_sib(modrm: u8) -> bool
+    ensures { sib_size modrm ≡ (if result then 1 else 0) }
 {
-    if mode_of(modrm) < REGISTER_MODE && rm_of(modrm) == SIB_FOLLOWS {
-        1
-    } else {
-        0
-    }
+    mode_of(modrm) < REGISTER_MODE && rm_of(modrm) == SIB_FOLLOWS
 }
 
 /// How many bytes a displacement has.
@@ -226,6 +222,7 @@ fn width(size: Size, narrow: bool) -> Width
 }
 
 /// The address of an operand of memory.
+#[inline(always)]
 fn address(modrm: u8, sib: u8, displacement: u32) -> Address
     requires { displacement_size modrm sib ≤ 1 → displacement < 256 }
     ensures { result ≡ address_of modrm sib displacement }
@@ -257,6 +254,7 @@ fn extend(kind: ImmediateKind, narrow: bool, immediate: u32) -> u32
 }
 
 /// Fills the operand at a place.
+#[inline(always)]
 fn fill_operand(
     place: &Place,
     modrm: u8,
@@ -288,6 +286,7 @@ fn fill_operand(
 }
 
 /// Fills the form of a row with these prefixes and fields.
+#[inline(always)]
 #[tactic(auto, unfolding(crate::specs::Fields::form_of))]
 pub fn fill(
     row: &Row,
@@ -306,8 +305,22 @@ pub fn fill(
     let immediate = extend(row.immediate, narrow, immediate);
     form.op = row.op;
     form.width = width(row.size, narrow);
-    fill_operand(&row.first, modrm, sib, displacement, immediate, &mut form.first);
-    fill_operand(&row.second, modrm, sib, displacement, immediate, &mut form.second);
+    fill_operand(
+        &row.first,
+        modrm,
+        sib,
+        displacement,
+        immediate,
+        &mut form.first,
+    );
+    fill_operand(
+        &row.second,
+        modrm,
+        sib,
+        displacement,
+        immediate,
+        &mut form.second,
+    );
     match &row.third {
         Place::Nothing => form.third = Operand::Absent,
         place => fill_operand(place, modrm, sib, displacement, immediate, &mut form.third),

@@ -1,16 +1,16 @@
 // Reading an instruction.
-ghost use Rattle.std.specs.Prelude.{◌≡◌, ◌<◌, ◌≤◌, ◌^◌, ◌+◌, length, take, drop, slice_index_or, ℕ, ◌↔◌, ◌||◌, ◌==◌, Some};
+ghost use Rattle.std.specs.Prelude.{◌≡◌, ◌<◌, ◌≤◌, ◌^◌, ◌+◌, length, take, drop, slice_index_or, ℕ, ◌↔◌, ◌||◌, ◌==◌, Some, true, nat_lt, if◌then◌else◌, option_copied};
 ghost use Rattle.i386_decode.specs.declared.form.Form.{Form};
 ghost use Rattle.i386_decode.specs.declared.form.Decoded.TheVariants as decoded;
-ghost use Rattle.i386_decode.specs.InPlace.{decoded_by, read_at, is_prefixed};
-ghost use Rattle.i386_decode.specs.Fields.{is_narrow, modrm_size, no_modrm, repeat_of, repeat_by};
-ghost use Rattle.i386_decode.specs.Spelling.{entry_of, BeginsWith, BeginsSpelling, SpellsNothing};
-ghost use Rattle.i386_decode.specs.Reading.{front, opcode_at, least_in, fields_at, row_read, entry_read, answer, decode_of, number};
+ghost use Rattle.i386_decode.specs.InPlace.{decoded_by, numbers_at, read_at, is_prefixed};
+ghost use Rattle.i386_decode.specs.Fields.{is_narrow, names_register, repeat_of, repeat_by};
+ghost use Rattle.i386_decode.specs.Spelling.{entry_of, row_at, BeginsWith, BeginsSpelling, SpellsNothing};
+ghost use Rattle.i386_decode.specs.Reading.{front, opcode_at, least_in, least_modrm, modrm_or, fields_at, row_read, entry_read, answer, decode_of, number};
 ghost use Rattle.i386_decode.specs.WellFormed.{IsWellFormed, WhenForm};
 
 use crate::fields::{
-    NO_MODRM, displacement_count, fill, immediate_count, is_register, modrm_count, number_from,
-    reg_of, sib_count, wants_memory,
+    NO_MODRM, displacement_count, fill, has_sib, immediate_count, is_register, modrm_count,
+    number_from, reg_of, wants_memory,
 };
 use crate::form::{Extent, Form, Repeat};
 use crate::groups::group_entry;
@@ -57,7 +57,11 @@ fn byte_behind(bytes: &[u8], at: usize, other: u8) -> u8
     requires { at < 2 ^ 63 }
     ensures { result ≡ slice_index_or (drop at bytes.now) 1 other }
 {
-    if at + 1 < bytes.len() { bytes[at + 1] } else { other }
+    if at + 1 < bytes.len() {
+        bytes[at + 1]
+    } else {
+        other
+    }
 }
 
 /// What a prefix makes of the repeat.
@@ -125,17 +129,66 @@ fn least_in(group: Group) -> u8
     }
 }
 
-/// The SIB byte at an index, or 0 where none is due.
-fn sib_byte(count: usize, bytes: &[u8], at: usize) -> u8
-    requires { count ≤ 1 }
-    ensures { result ≡ number count (drop at bytes.now) }
+/// What an instruction of so many bytes is, where fewer are there.
+fn cut_off(total: usize) -> Extent
+    ensures { (form : Form) → decoded_by result form ≡ (if nat_lt 15 total then decoded.Undefined else decoded.Short) }
 {
-    if count == 0 { 0 } else { byte_at(bytes, at, 0) }
+    if LONGEST < total {
+        Extent::Undefined
+    } else {
+        Extent::Short
+    }
 }
 
-/// Reads what follows the ModRM byte, behind `used` bytes.
+/// Reads the displacement and the immediate behind this ModRM byte and this SIB byte, behind `used` bytes.
+#[inline(always)]
+fn read_numbers(
+    row: &Row,
+    narrow: bool,
+    repeat: Repeat,
+    used: usize,
+    modrm: u8,
+    sib: u8,
+    bytes: &[u8],
+    form: &mut Form,
+) -> Extent
+    requires few { used < 2 ^ 63 + 4 }
+    requires first { length bytes.now ≤ 15 }
+    ensures { decoded_by result form.new ≡ numbers_at row.now narrow repeat used (length bytes.now) modrm sib (drop used bytes.now) }
+{
+    let displacement_bytes = displacement_count(modrm, sib);
+    let last = used + displacement_bytes;
+    let immediate_bytes = immediate_count(row.immediate, narrow);
+    let total = last + immediate_bytes;
+    if bytes.len() < total {
+        return cut_off(total);
+    }
+    let displacement = number_from(bytes, used, displacement_bytes);
+    let immediate = number_from(bytes, last, immediate_bytes);
+    fill(
+        row,
+        narrow,
+        repeat,
+        modrm,
+        sib,
+        displacement,
+        immediate,
+        form,
+    );
+    Extent::Whole(total as u8)
+}
+
+/// The SIB byte at an index, or 0 where the bytes end before it.
+fn sib_byte(bytes: &[u8], at: usize) -> u8
+    ensures { result ≡ number 1 (drop at bytes.now) }
+{
+    byte_at(bytes, at, 0)
+}
+
+/// Reads what follows a ModRM byte that names memory, behind `used` bytes.
+#[inline(never)]
 #[tactic(auto, unfolding(crate::specs::Reading::fields_at))]
-fn read_fields(
+fn read_memory(
     row: &Row,
     narrow: bool,
     repeat: Repeat,
@@ -144,29 +197,19 @@ fn read_fields(
     bytes: &[u8],
     form: &mut Form,
 ) -> Extent
-    requires { used < 2 ^ 63 + 3 }
+    requires few { used < 2 ^ 63 + 3 }
+    requires first { length bytes.now ≤ 15 }
     ensures { decoded_by result form.new ≡ fields_at row.now narrow repeat used (length bytes.now) modrm (drop used bytes.now) }
 {
-    let sib_bytes = sib_count(modrm);
-    let sib = sib_byte(sib_bytes, bytes, used);
-    let behind = used + sib_bytes;
-    let displacement_bytes = displacement_count(modrm, sib);
-    let last = behind + displacement_bytes;
-    let immediate_bytes = immediate_count(row.immediate, narrow);
-    let total = last + immediate_bytes;
-    if LONGEST < total {
-        return Extent::Undefined;
+    if has_sib(modrm) {
+        let sib = sib_byte(bytes, used);
+        read_numbers(row, narrow, repeat, used + 1, modrm, sib, bytes, form)
+    } else {
+        read_numbers(row, narrow, repeat, used, modrm, 0, bytes, form)
     }
-    if bytes.len() < total {
-        return Extent::Short;
-    }
-    let displacement = number_from(bytes, behind, displacement_bytes);
-    let immediate = number_from(bytes, last, immediate_bytes);
-    fill(row, narrow, repeat, modrm, sib, displacement, immediate, form);
-    Extent::Whole(total as u8)
 }
 
-/// Reads what follows the opcode of a row that has no ModRM byte, behind `used` bytes.
+/// Reads what follows where there is neither a SIB byte nor a displacement, behind `used` bytes.
 #[inline(always)]
 #[tactic(auto, unfolding(crate::specs::Reading::fields_at))]
 fn read_plain(
@@ -174,30 +217,27 @@ fn read_plain(
     narrow: bool,
     repeat: Repeat,
     used: usize,
+    modrm: u8,
     bytes: &[u8],
     form: &mut Form,
 ) -> Extent
-    requires few { used < 2 ^ 63 + 2 }
-    requires plain { modrm_size row.now.modrm ≡ 0 }
-    ensures { decoded_by result form.new ≡ row_read (Some row.now) narrow repeat used (length bytes.now) no_modrm (drop used bytes.now) }
+    requires few { used < 2 ^ 63 + 3 }
+    requires first { length bytes.now ≤ 15 }
+    requires register { names_register modrm ≡ true }
+    ensures { decoded_by result form.new ≡ fields_at row.now narrow repeat used (length bytes.now) modrm (drop used bytes.now) }
 {
-    if row.barred && narrow {
-        return Extent::Undefined;
-    }
     let immediate_bytes = immediate_count(row.immediate, narrow);
     let total = used + immediate_bytes;
-    if LONGEST < total {
-        return Extent::Undefined;
-    }
     if bytes.len() < total {
-        return Extent::Short;
+        return cut_off(total);
     }
     let immediate = number_from(bytes, used, immediate_bytes);
-    fill(row, narrow, repeat, NO_MODRM, 0, 0, immediate, form);
+    fill(row, narrow, repeat, modrm, 0, 0, immediate, form);
     Extent::Whole(total as u8)
 }
 
 /// Reads what follows the opcode of a row with this ModRM byte, behind `used` bytes.
+#[inline(always)]
 fn read_row(
     row: &Row,
     narrow: bool,
@@ -207,43 +247,71 @@ fn read_row(
     bytes: &[u8],
     form: &mut Form,
 ) -> Extent
-    requires { used < 2 ^ 63 + 2 }
+    requires few { used < 2 ^ 63 + 2 }
+    requires first { length bytes.now ≤ 15 }
     ensures { decoded_by result form.new ≡ row_read (Some row.now) narrow repeat used (length bytes.now) modrm (drop used bytes.now) }
 {
     if row.barred && narrow || wants_memory(row.modrm) && is_register(modrm) {
         return Extent::Undefined;
     }
-    read_fields(row, narrow, repeat, used + modrm_count(row.modrm), modrm, bytes, form)
+    let behind = used + modrm_count(row.modrm);
+    if is_register(modrm) {
+        read_plain(row, narrow, repeat, behind, modrm, bytes, form)
+    } else {
+        read_memory(row, narrow, repeat, behind, modrm, bytes, form)
+    }
+}
+
+/// The ModRM byte at an index, which that of the shortest instruction stands for where the bytes end, or what stands for it
+/// where there is none.
+fn modrm_behind(entry: &Entry, bytes: &[u8], at: usize) -> u8
+    ensures { result ≡ modrm_or (least_modrm entry.now) (drop at bytes.now) }
+{
+    match entry {
+        Entry::Invalid => NO_MODRM,
+        Entry::One(row) => if modrm_count(row.modrm) == 0 {
+            NO_MODRM
+        } else {
+            byte_at(bytes, at, LEAST_MODRM)
+        },
+        Entry::Many(group) => byte_at(bytes, at, least_in(*group)),
+    }
+}
+
+/// The row at an entry with this reg field.
+fn row_in(entry: &'static Entry, reg: u8) -> Option<&'static Row>
+    requires { reg < 8 }
+    ensures { option_copied result ≡ row_at entry.now reg }
+{
+    match entry {
+        Entry::Invalid => None,
+        Entry::One(row) => Some(row),
+        Entry::Many(group) => match group_entry(*group, reg) {
+            None => None,
+            Some(row) => Some(row),
+        },
+    }
 }
 
 /// Reads what follows the opcode, behind `used` bytes.
 #[inline(always)]
 #[tactic(auto, unfolding(crate::specs::Reading::entry_read))]
 fn read_entry(
-    entry: &Entry,
+    entry: &'static Entry,
     narrow: bool,
     repeat: Repeat,
     used: usize,
     bytes: &[u8],
     form: &mut Form,
 ) -> Extent
-    requires { used < 2 ^ 63 + 2 }
+    requires few { used < 2 ^ 63 + 2 }
+    requires first { length bytes.now ≤ 15 }
     ensures { decoded_by result form.new ≡ entry_read entry.now narrow repeat used (length bytes.now) (drop used bytes.now) }
 {
-    match entry {
-        Entry::Invalid => Extent::Undefined,
-        Entry::One(row) => if modrm_count(row.modrm) == 0 {
-            read_plain(row, narrow, repeat, used, bytes, form)
-        } else {
-            read_row(row, narrow, repeat, used, byte_at(bytes, used, LEAST_MODRM), bytes, form)
-        },
-        Entry::Many(group) => {
-            let modrm = byte_at(bytes, used, least_in(*group));
-            match group_entry(*group, reg_of(modrm)) {
-                None => Extent::Undefined,
-                Some(row) => read_row(row, narrow, repeat, used, modrm, bytes, form),
-            }
-        }
+    let modrm = modrm_behind(entry, bytes, used);
+    match row_in(entry, reg_of(modrm)) {
+        None => Extent::Undefined,
+        Some(row) => read_row(row, narrow, repeat, used, modrm, bytes, form),
     }
 }
 
@@ -260,14 +328,9 @@ fn first_bytes(bytes: &[u8]) -> &[u8]
 
 /// Reads what stands behind `count` prefixes.
 #[inline(always)]
-fn read_behind(
-    bytes: &[u8],
-    count: usize,
-    narrow: bool,
-    repeat: Repeat,
-    form: &mut Form,
-) -> Extent
-    requires { count < 2 ^ 63 }
+fn read_behind(bytes: &[u8], count: usize, narrow: bool, repeat: Repeat, form: &mut Form) -> Extent
+    requires few { count < 2 ^ 63 }
+    requires first { length bytes.now ≤ 15 }
     ensures { decoded_by result form.new ≡ read_at (drop count bytes.now) narrow repeat count (length bytes.now) }
 {
     let (entry, size) = read_opcode(bytes, count);
@@ -278,6 +341,7 @@ fn read_behind(
 #[inline(never)]
 #[tactic(auto, unfolding(crate::specs::Reading::answer))]
 fn read_prefixed(bytes: &[u8], form: &mut Form) -> Extent
+    requires { length bytes.now ≤ 15 }
     ensures { decoded_by result form.new ≡ answer bytes.now }
 {
     let (count, narrow, repeat) = read_prefixes(bytes);
@@ -293,6 +357,7 @@ fn begins_with_prefix(bytes: &[u8]) -> bool
 
 #[tactic(auto, unfolding(crate::specs::Reading::answer))]
 fn read_short(bytes: &[u8], form: &mut Form) -> Extent
+    requires { length bytes.now ≤ 15 }
     ensures { decoded_by result form.new ≡ answer bytes.now }
 {
     if begins_with_prefix(bytes) {
