@@ -50,8 +50,8 @@ impl<'a> Bus for GuestBus<'a> {
         flat_memory::fits(self.first, &*self.bytes, at, count)
     }
 
-    fn fetch(&self, at: u32, into: &mut [u8; 15]) -> usize {
-        flat_memory::fetch(self.first, &*self.bytes, at, into)
+    fn fetch(&self, at: u32) -> &[u8] {
+        flat_memory::fetch(self.first, &*self.bytes, at)
     }
 
     fn load(&self, at: u32, width: Width) -> Option<u32> {
@@ -118,8 +118,8 @@ impl<'a> Bus for RealTimeBus<'a> {
         flat_memory::fits(self.first, &*self.bytes, at, count)
     }
 
-    fn fetch(&self, at: u32, into: &mut [u8; 15]) -> usize {
-        flat_memory::fetch(self.first, &*self.bytes, at, into)
+    fn fetch(&self, at: u32) -> &[u8] {
+        flat_memory::fetch(self.first, &*self.bytes, at)
     }
 
     fn load(&self, at: u32, width: Width) -> Option<u32> {

@@ -1,5 +1,5 @@
 // The bus.
-ghost use Rattle.std.specs.Prelude.{◌≡◌, ℕ, List, take, length};
+ghost use Rattle.std.specs.Prelude.{◌≡◌, ℕ, List};
 ghost use Rattle.memory_model.specs.Side.{covers, bytes_from, inside, loaded, stored_inside};
 ghost use Rattle.cpu_state.specs.Width.{size};
 ghost use Rattle.cpu_state.specs.Bus.{State, Ports, all_mine, port_answer, after_port_in, after_port_out};
@@ -25,10 +25,9 @@ pub trait Bus {
     fn fits(&self, at: u32, count: u32) -> bool
         ensures { result ≡ covers (state self.now).side at count };
 
-    /// Copies the bytes from an address on that are on the side, at most 15, and says how many.
-    fn fetch(&self, at: u32, into: &mut [u8; 15]) -> usize
-        ensures count { result ≡ length (bytes_from (state self.now).side at 15) }
-        ensures copied { take result into.new ≡ bytes_from (state self.now).side at 15 };
+    /// The bytes from an address on that are on the side, at most 15.
+    fn fetch(&self, at: u32) -> &[u8]
+        ensures { result.now ≡ bytes_from (state self.now).side at 15 };
 
     /// The operand at an address; `None` exactly where a byte of it is outside.
     fn load(&self, at: u32, width: Width) -> Option<u32>

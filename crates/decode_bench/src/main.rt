@@ -2,7 +2,7 @@
 // instructions it decoded in a second; without words it does nothing.
 #![tactic(auto)]
 
-use i386_decode::{Decoded, decode};
+use i386_decode::{Form, decode};
 use std::time::Instant;
 use std::{env, io};
 
@@ -74,26 +74,27 @@ static FETCHED: [[u8; 15]; 16] = [
     ],
 ];
 
-/// How often an instruction of the list is another than the one before it, in one pass. Each answer is compared whole, so that no
-/// part of it is left out when the program is built.
-fn changes_in_pass(before: &mut Decoded) -> u64 {
+/// How often an instruction of the list is another than the one before it, in one pass. Each answer
+/// is compared whole, so that no part of it is left out when the program is built.
+fn changes_in_pass(form: &mut Form, before: &mut Form) -> u64 {
     let mut changes = 0u64;
     for bytes in &FETCHED {
-        let decoded = decode(bytes);
-        if decoded != *before {
+        let _extent = decode(bytes, form);
+        if *form != *before {
             changes = changes.wrapping_add(1);
         }
-        *before = decoded;
+        *before = *form;
     }
     changes
 }
 
 /// The same in so many passes.
 fn changes(count: u32) -> u64 {
-    let mut before = Decoded::Undefined;
+    let mut form = Form::new();
+    let mut before = Form::new();
     let mut changes = 0u64;
     for _ in 0..count {
-        changes = changes.wrapping_add(changes_in_pass(&mut before));
+        changes = changes.wrapping_add(changes_in_pass(&mut form, &mut before));
     }
     changes
 }

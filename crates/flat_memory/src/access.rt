@@ -25,26 +25,23 @@ pub fn fits(first: u32, bytes: &[u8], at: u32, count: u32) -> bool
     count == 0 || place(first, bytes, at, count).is_some()
 }
 
-/// Copies the bytes from an address on that are on the side, at most 15, and says how many.
-pub fn fetch(first: u32, bytes: &[u8], at: u32, into: &mut [u8; 15]) -> usize
-    ensures count { result ≡ length (bytes_from (side_at first bytes.now) at 15) }
-    ensures copied { take result into.new ≡ bytes_from (side_at first bytes.now) at 15 }
+/// The bytes from an address on that are on the side, at most 15.
+pub fn fetch(first: u32, bytes: &[u8], at: u32) -> &[u8]
+    ensures { result.now ≡ bytes_from (side_at first bytes.now) at 15 }
 {
     if at < first {
-        return 0;
+        return &bytes[..0];
     }
-    copy_from(bytes, (at - first) as usize, into)
+    window(bytes, (at - first) as usize)
 }
 
-// Copies up to 15 bytes from a place on.
-fn copy_from(bytes: &[u8], place: usize, into: &mut [u8; 15]) -> usize
-    ensures count { result ≡ length (take 15 (drop place bytes.now)) }
-    ensures copied { take result into.new ≡ take 15 (drop place bytes.now) }
+// Up to 15 bytes from a place on.
+fn window(bytes: &[u8], place: usize) -> &[u8]
+    ensures { result.now ≡ take 15 (drop place bytes.now) }
 {
     let place = place.min(bytes.len());
-    let count = (bytes.len() - place).min(15);
-    into[..count].copy_from_slice(&bytes[place..place + count]);
-    count
+    let end = bytes.len().min(place + 15);
+    &bytes[place..end]
 }
 
 /// The byte at an address; `None` exactly where it is outside.

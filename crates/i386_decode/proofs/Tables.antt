@@ -1,5 +1,5 @@
 -- The tables of the code are those of the specification, at each opcode.
-use Rattle.std.proofs.Common.{◌≡◌, ℕ, ◌<◌, List, get_or, Option, refl, ap, ◌∙◌, arith}
+use Rattle.std.proofs.Common.{◌≡◌, ℕ, ◌<◌, Bool, List, get_or, Option, refl, ap, ◌∙◌, arith}
 use Rattle.std.specs.Prelude.{map}
 use Rattle.std.specs.List.{range_with_len}
 use Rattle.std.proofs.lemmas.List.FromFn.{get_or-map-range_with_len}
@@ -9,6 +9,8 @@ use Rattle.i386_decode.specs.declared.row.Group.{Group}
 use Rattle.i386_decode.specs.declared.row.Group.TheVariants as group
 use Rattle.i386_decode.specs.declared.opcodes.TheConstants.{ONE_BYTE, TWO_BYTE}
 use Rattle.i386_decode.specs.declared.groups.TheConstants.{IMMEDIATE_BYTE, IMMEDIATE_FULL, IMMEDIATE_SIGNED, POP, SHIFT_BYTE_IMMEDIATE, SHIFT_FULL_IMMEDIATE, SHIFT_BYTE_ONE, SHIFT_FULL_ONE, SHIFT_BYTE_CL, SHIFT_FULL_CL, MOV_BYTE, MOV_FULL, UNARY_BYTE, UNARY_FULL, INC_DEC_BYTE, INDIRECT, BIT_TEST}
+use Rattle.i386_decode.specs.declared.prefix_table.TheConstants.{IS_PREFIX}
+use Rattle.i386_decode.specs.Fields.{is_prefix}
 use Rattle.i386_decode.specs.Table.{one_byte, two_byte, group_row}
 
 -- an entry of a list that is computed from a function
@@ -99,3 +101,9 @@ indirect_at = group_table group.Indirect INDIRECT refl
 pub bit_test_at : (i : ℕ) (d : Option Row) → i < 8 → get_or BIT_TEST i d ≡ group_row group.BitTest i
 unfolding group_row
 bit_test_at = group_table group.BitTest BIT_TEST refl
+
+prefix_table : IS_PREFIX ≡ map is_prefix (range_with_len 0 256)
+prefix_table = refl
+
+pub prefix_at : (i : ℕ) (d : Bool) → i < 256 → get_or IS_PREFIX i d ≡ is_prefix i
+prefix_at i d h = entry_at IS_PREFIX is_prefix 256 d prefix_table i h

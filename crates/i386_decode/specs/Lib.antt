@@ -3,3 +3,4 @@ pub mod Fields
 pub mod Spelling
 pub mod Reading
 pub mod WellFormed
+pub mod InPlace

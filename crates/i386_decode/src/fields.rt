@@ -1,6 +1,6 @@
 // The fields of an instruction: how long each is, and what they make of the operands.
 
-ghost use Rattle.std.specs.Prelude.{◌≡◌, ◌<◌, ◌≤◌, ◌/◌, ◌%◌, drop, slice_index_or};
+ghost use Rattle.std.specs.Prelude.{◌≡◌, ◌<◌, ◌≤◌, ◌+◌, ◌/◌, ◌%◌, drop, length, slice_index_or, if◌then◌else◌};
 ghost use Rattle.i386_decode.specs.Fields.{reg, mode, rm, sib_size, displacement_size, immediate_size, modrm_size, is_memory_only, names_register, sign_extended, base_of, index_of, address_of, extended, operand_of, width_of, form_of};
 ghost use Rattle.i386_decode.specs.Reading.{number};
 
@@ -15,38 +15,32 @@ pub fn byte_or(bytes: &[u8], at: usize, other: u8) -> u8
     if at < bytes.len() { bytes[at] } else { other }
 }
 
-/// The bytes behind the first ones.
-pub fn skip(bytes: &[u8], count: usize) -> &[u8]
-    ensures { result.now ≡ drop count bytes.now }
-{
-    if count < bytes.len() {
-        &bytes[count..]
-    } else {
-        &bytes[bytes.len()..]
-    }
-}
-
-/// The byte at an index as a number, or 0 where there is none.
-fn number_of(bytes: &[u8], at: usize) -> u32
-    ensures value { result ≡ slice_index_or bytes.now at 0 }
+/// A byte of those from an index on, as a number.
+fn byte_from(bytes: &[u8], at: usize, place: usize) -> u32
+    requires { at + place < length bytes.now }
+    ensures value { result ≡ slice_index_or (drop at bytes.now) place 0 }
     ensures small { result < 256 }
 {
-    u32::from(byte_or(bytes, at, 0))
+    u32::from(bytes[at + place])
 }
 
-/// The number of so many bytes, lowest first, with zeros for those that are missing.
-pub fn number_at(bytes: &[u8], count: usize) -> u32
-    requires { count ≤ 4 }
-    ensures value { result ≡ number count bytes.now }
+/// The number of so many bytes from an index on, lowest first.
+pub fn number_from(bytes: &[u8], at: usize, count: usize) -> u32
+    requires few { count ≤ 4 }
+    requires within { at + count ≤ length bytes.now }
+    ensures value { result ≡ number count (drop at bytes.now) }
     ensures one { count ≤ 1 → result < 256 }
 {
     match count {
         0 => 0,
-        1 => number_of(bytes, 0),
-        2 => number_of(bytes, 0) + 256 * number_of(bytes, 1),
-        3 => number_of(bytes, 0) + 256 * (number_of(bytes, 1) + 256 * number_of(bytes, 2)),
-        _ => number_of(bytes, 0)
-            + 256 * (number_of(bytes, 1) + 256 * (number_of(bytes, 2) + 256 * number_of(bytes, 3))),
+        1 => byte_from(bytes, at, 0),
+        2 => byte_from(bytes, at, 0) + 256 * byte_from(bytes, at, 1),
+        3 => byte_from(bytes, at, 0)
+            + 256 * (byte_from(bytes, at, 1) + 256 * byte_from(bytes, at, 2)),
+        _ => byte_from(bytes, at, 0)
+            + 256
+                * (byte_from(bytes, at, 1)
+                    + 256 * (byte_from(bytes, at, 2) + 256 * byte_from(bytes, at, 3))),
     }
 }
 
@@ -137,15 +131,11 @@ pub fn is_register(modrm: u8) -> bool
     mode_of(modrm) == REGISTER_MODE
 }
 
-/// How many SIB bytes follow a ModRM byte.
-pub fn sib_count(modrm: u8) -> usize
-    ensures { result ≡ sib_size modrm }
+/// Whether a SIB byte follows a ModRM byte.
+pub fn has_sib(modrm: u8) -> bool
+    ensures { sib_size modrm ≡ (if result then 1 else 0) }
 {
-    if mode_of(modrm) < REGISTER_MODE && rm_of(modrm) == SIB_FOLLOWS {
-        1
-    } else {
-        0
-    }
+    mode_of(modrm) < REGISTER_MODE && rm_of(modrm) == SIB_FOLLOWS
 }
 
 /// How many bytes a displacement has.
@@ -175,9 +165,9 @@ pub fn immediate_count(kind: ImmediateKind, narrow: bool) -> usize
     match kind {
         ImmediateKind::NoBytes => 0,
         ImmediateKind::OneByte | ImmediateKind::SignedByte => 1,
+        ImmediateKind::FullWidth if narrow => 2,
         ImmediateKind::TwoBytes => 2,
-        ImmediateKind::FullWidth => if narrow { 2 } else { 4 },
-        ImmediateKind::FourBytes => 4,
+        ImmediateKind::FullWidth | ImmediateKind::FourBytes => 4,
     }
 }
 
@@ -232,6 +222,7 @@ fn width(size: Size, narrow: bool) -> Width
 }
 
 /// The address of an operand of memory.
+#[inline(always)]
 fn address(modrm: u8, sib: u8, displacement: u32) -> Address
     requires { displacement_size modrm sib ≤ 1 → displacement < 256 }
     ensures { result ≡ address_of modrm sib displacement }
@@ -262,23 +253,31 @@ fn extend(kind: ImmediateKind, narrow: bool, immediate: u32) -> u32
     }
 }
 
-/// The operand at a place.
-fn operand(place: Place, modrm: u8, sib: u8, displacement: u32, immediate: u32) -> Operand
+/// Fills the operand at a place.
+#[inline(always)]
+fn fill_operand(
+    place: &Place,
+    modrm: u8,
+    sib: u8,
+    displacement: u32,
+    immediate: u32,
+    operand: &mut Operand,
+)
     requires { displacement_size modrm sib ≤ 1 → displacement < 256 }
-    ensures { result ≡ operand_of place modrm sib displacement immediate }
+    ensures { operand.new ≡ operand_of place.now modrm sib displacement immediate }
 {
     match place {
-        Place::Nothing => Operand::Absent,
-        Place::RegField => Operand::Register(reg_of(modrm)),
+        Place::Nothing => *operand = Operand::Absent,
+        Place::RegField => *operand = Operand::Register(reg_of(modrm)),
         Place::RmField => if is_register(modrm) {
-            Operand::Register(rm_of(modrm))
+            *operand = Operand::Register(rm_of(modrm));
         } else {
-            Operand::Memory(address(modrm, sib, displacement))
+            *operand = Operand::Memory(address(modrm, sib, displacement));
         },
-        Place::Fixed(register) => Operand::Register(register),
-        Place::Number(number) => Operand::Immediate(number),
-        Place::Immediate => Operand::Immediate(immediate),
-        Place::Offset => Operand::Memory(Address {
+        Place::Fixed(register) => *operand = Operand::Register(*register),
+        Place::Number(number) => *operand = Operand::Immediate(*number),
+        Place::Immediate => *operand = Operand::Immediate(immediate),
+        Place::Offset => *operand = Operand::Memory(Address {
             base: None,
             index: None,
             displacement: immediate,
@@ -286,9 +285,10 @@ fn operand(place: Place, modrm: u8, sib: u8, displacement: u32, immediate: u32) 
     }
 }
 
-/// The form of a row with these prefixes and fields.
+/// Fills the form of a row with these prefixes and fields.
+#[inline(always)]
 #[tactic(auto, unfolding(crate::specs::Fields::form_of))]
-pub fn form(
+pub fn fill(
     row: &Row,
     narrow: bool,
     repeat: Repeat,
@@ -296,18 +296,34 @@ pub fn form(
     sib: u8,
     displacement: u32,
     immediate: u32,
-) -> Form
+    form: &mut Form,
+)
     requires displacement_fits { displacement_size modrm sib ≤ 1 → displacement < 256 }
     requires immediate_fits { immediate_size row.now.immediate narrow ≤ 1 → immediate < 256 }
-    ensures { result ≡ form_of row.now narrow repeat modrm sib displacement immediate }
+    ensures { form.new ≡ form_of row.now narrow repeat modrm sib displacement immediate }
 {
     let immediate = extend(row.immediate, narrow, immediate);
-    Form {
-        op: row.op,
-        width: width(row.size, narrow),
-        first: operand(row.first, modrm, sib, displacement, immediate),
-        second: operand(row.second, modrm, sib, displacement, immediate),
-        third: operand(row.third, modrm, sib, displacement, immediate),
-        repeat: if row.string { repeat } else { Repeat::Once },
+    form.op = row.op;
+    form.width = width(row.size, narrow);
+    fill_operand(
+        &row.first,
+        modrm,
+        sib,
+        displacement,
+        immediate,
+        &mut form.first,
+    );
+    fill_operand(
+        &row.second,
+        modrm,
+        sib,
+        displacement,
+        immediate,
+        &mut form.second,
+    );
+    match &row.third {
+        Place::Nothing => form.third = Operand::Absent,
+        place => fill_operand(place, modrm, sib, displacement, immediate, &mut form.third),
     }
+    form.repeat = if row.string { repeat } else { Repeat::Once };
 }

@@ -48,6 +48,31 @@ pub struct Form {
     pub repeat: Repeat,
 }
 
+impl Form {
+    /// A form to be filled.
+    pub fn new() -> Form {
+        Form {
+            op: Op::Hlt,
+            width: Width::W32,
+            first: Operand::Absent,
+            second: Operand::Absent,
+            third: Operand::Absent,
+            repeat: Repeat::Once,
+        }
+    }
+}
+
+/// What bytes begin with, where the form stands in a place of its own.
+#[derive(Clone, Copy, PartialEq, Eq, Debug)]
+pub enum Extent {
+    /// a spelling, of so many bytes
+    Whole(u8),
+    /// no spelling, however they go on
+    Undefined,
+    /// the beginning of a spelling
+    Short,
+}
+
 /// What bytes begin with.
 #[derive(Clone, Copy, PartialEq, Eq, Debug)]
 pub enum Decoded {

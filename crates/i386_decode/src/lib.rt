@@ -6,11 +6,10 @@ mod form;
 mod groups;
 mod laws;
 mod opcodes;
+mod prefix_table;
 mod reading;
 mod row;
-#[cfg(test)]
-mod tests;
 
-pub use form::{Address, Decoded, Form, Operand, Repeat};
+pub use form::{Address, Decoded, Extent, Form, Operand, Repeat};
 pub use laws::{computed_forms, decided, one_spelling, spelling_sizes, well_formed_spellings};
 pub use reading::decode;

@@ -1,18 +1,21 @@
 // Reading an instruction.
-ghost use Rattle.std.specs.Prelude.{◌≡◌, ◌<◌, ◌≤◌, ◌^◌, ◌+◌, length, take, ℕ, ◌↔◌, ◌||◌, ◌==◌, option_copied};
+ghost use Rattle.std.specs.Prelude.{◌≡◌, ◌<◌, ◌≤◌, ◌^◌, ◌+◌, length, take, drop, slice_index_or, ℕ, ◌↔◌, ◌||◌, ◌==◌, Some, true, nat_lt, if◌then◌else◌, option_copied};
 ghost use Rattle.i386_decode.specs.declared.form.Form.{Form};
-ghost use Rattle.i386_decode.specs.Fields.{is_prefix, is_narrow, repeat_of, repeat_by};
+ghost use Rattle.i386_decode.specs.declared.form.Decoded.TheVariants as decoded;
+ghost use Rattle.i386_decode.specs.InPlace.{decoded_by, numbers_at, read_at, is_prefixed};
+ghost use Rattle.i386_decode.specs.Fields.{is_narrow, names_register, repeat_of, repeat_by};
 ghost use Rattle.i386_decode.specs.Spelling.{entry_of, row_at, BeginsWith, BeginsSpelling, SpellsNothing};
-ghost use Rattle.i386_decode.specs.Reading.{front, opcode_at, least_modrm, modrm_or, fields_at, entry_read, decode_of};
+ghost use Rattle.i386_decode.specs.Reading.{front, opcode_at, least_in, least_modrm, modrm_or, fields_at, row_read, entry_read, answer, decode_of, number};
 ghost use Rattle.i386_decode.specs.WellFormed.{IsWellFormed, WhenForm};
 
 use crate::fields::{
-    NO_MODRM, byte_or, displacement_count, form, immediate_count, is_register, modrm_count,
-    number_at, reg_of, sib_count, skip, wants_memory,
+    NO_MODRM, displacement_count, fill, has_sib, immediate_count, is_register, modrm_count,
+    number_from, reg_of, wants_memory,
 };
-use crate::form::{Decoded, Repeat};
+use crate::form::{Extent, Form, Repeat};
 use crate::groups::group_entry;
 use crate::opcodes::{one_byte_entry, two_byte_entry};
+use crate::prefix_table::is_prefix_byte;
 use crate::row::{Entry, Group, Row};
 
 // The prefixes (Intel 80386 manual, section 17.2).
@@ -21,20 +24,6 @@ const OPERAND_SIZE: u8 = 0x66;
 const REPNE: u8 = 0xf2;
 
 const REPE: u8 = 0xf3;
-
-const SEGMENT_ES: u8 = 0x26;
-
-const SEGMENT_CS: u8 = 0x2e;
-
-const SEGMENT_SS: u8 = 0x36;
-
-const SEGMENT_DS: u8 = 0x3e;
-
-const SEGMENT_FS: u8 = 0x64;
-
-const SEGMENT_GS: u8 = 0x65;
-
-const LOCK: u8 = 0xf0;
 
 /// The first byte of the opcodes of two bytes.
 const TWO_BYTE_ESCAPE: u8 = 0x0f;
@@ -56,22 +45,23 @@ const LEAST_UNARY: u8 = 0x10;
 /// BT of memory at EAX, the first of its group.
 const LEAST_BIT_TEST: u8 = 0x20;
 
-fn is_prefix_byte(byte: u8) -> bool
-    ensures { result ≡ is_prefix byte }
+/// The byte at an index, or another where there is none.
+fn byte_at(bytes: &[u8], at: usize, other: u8) -> u8
+    ensures { result ≡ slice_index_or (drop at bytes.now) 0 other }
 {
-    matches!(
-        byte,
-        OPERAND_SIZE
-            | REPNE
-            | REPE
-            | SEGMENT_ES
-            | SEGMENT_CS
-            | SEGMENT_SS
-            | SEGMENT_DS
-            | SEGMENT_FS
-            | SEGMENT_GS
-            | LOCK
-    )
+    if at < bytes.len() { bytes[at] } else { other }
+}
+
+/// The byte behind an index, or another where there is none.
+fn byte_behind(bytes: &[u8], at: usize, other: u8) -> u8
+    requires { at < 2 ^ 63 }
+    ensures { result ≡ slice_index_or (drop at bytes.now) 1 other }
+{
+    if at + 1 < bytes.len() {
+        bytes[at + 1]
+    } else {
+        other
+    }
 }
 
 /// What a prefix makes of the repeat.
@@ -113,128 +103,216 @@ fn read_prefixes(bytes: &[u8]) -> (usize, bool, Repeat)
     (count, narrow, repeat)
 }
 
-/// The entry of the opcode, and how many bytes the opcode has.
+/// The entry of the opcode at an index, and how many bytes the opcode has.
 #[tactic(auto, unfolding(crate::specs::Spelling::entry_of))]
-fn read_opcode(bytes: &[u8]) -> (&'static Entry, usize)
-    ensures entry { result.0.now ≡ entry_of (opcode_at bytes.now) }
-    ensures size { result.1 ≡ length (opcode_at bytes.now) }
+fn read_opcode(bytes: &[u8], at: usize) -> (&'static Entry, usize)
+    requires { at < 2 ^ 63 }
+    ensures entry { result.0.now ≡ entry_of (opcode_at (drop at bytes.now)) }
+    ensures size { result.1 ≡ length (opcode_at (drop at bytes.now)) }
 {
-    let opcode = byte_or(bytes, 0, LEAST_OPCODE);
+    let opcode = byte_at(bytes, at, LEAST_OPCODE);
     if opcode == TWO_BYTE_ESCAPE {
-        (two_byte_entry(byte_or(bytes, 1, LEAST_SECOND)), 2)
+        (two_byte_entry(byte_behind(bytes, at, LEAST_SECOND)), 2)
     } else {
         (one_byte_entry(opcode), 1)
     }
 }
 
-/// The ModRM byte of the shortest instruction at an entry, if it has one.
-fn least_modrm_byte(entry: &Entry) -> Option<u8>
-    ensures { result ≡ least_modrm entry.now }
+/// The ModRM byte of the shortest instruction of a group.
+fn least_in(group: Group) -> u8
+    ensures { result ≡ least_in group }
+{
+    match group {
+        Group::UnaryByte | Group::UnaryFull => LEAST_UNARY,
+        Group::BitTest => LEAST_BIT_TEST,
+        _ => LEAST_MODRM,
+    }
+}
+
+/// What an instruction of so many bytes is, where fewer are there.
+fn cut_off(total: usize) -> Extent
+    ensures { (form : Form) → decoded_by result form ≡ (if nat_lt 15 total then decoded.Undefined else decoded.Short) }
+{
+    if LONGEST < total {
+        Extent::Undefined
+    } else {
+        Extent::Short
+    }
+}
+
+/// Reads the displacement and the immediate behind this ModRM byte and this SIB byte, behind `used` bytes.
+#[inline(always)]
+fn read_numbers(
+    row: &Row,
+    narrow: bool,
+    repeat: Repeat,
+    used: usize,
+    modrm: u8,
+    sib: u8,
+    bytes: &[u8],
+    form: &mut Form,
+) -> Extent
+    requires few { used < 2 ^ 63 + 4 }
+    requires first { length bytes.now ≤ 15 }
+    ensures { decoded_by result form.new ≡ numbers_at row.now narrow repeat used (length bytes.now) modrm sib (drop used bytes.now) }
+{
+    let displacement_bytes = displacement_count(modrm, sib);
+    let last = used + displacement_bytes;
+    let immediate_bytes = immediate_count(row.immediate, narrow);
+    let total = last + immediate_bytes;
+    if bytes.len() < total {
+        return cut_off(total);
+    }
+    let displacement = number_from(bytes, used, displacement_bytes);
+    let immediate = number_from(bytes, last, immediate_bytes);
+    fill(
+        row,
+        narrow,
+        repeat,
+        modrm,
+        sib,
+        displacement,
+        immediate,
+        form,
+    );
+    Extent::Whole(total as u8)
+}
+
+/// The SIB byte at an index, or 0 where the bytes end before it.
+fn sib_byte(bytes: &[u8], at: usize) -> u8
+    ensures { result ≡ number 1 (drop at bytes.now) }
+{
+    byte_at(bytes, at, 0)
+}
+
+/// Reads what follows a ModRM byte that names memory, behind `used` bytes.
+#[inline(never)]
+#[tactic(auto, unfolding(crate::specs::Reading::fields_at))]
+fn read_memory(
+    row: &Row,
+    narrow: bool,
+    repeat: Repeat,
+    used: usize,
+    modrm: u8,
+    bytes: &[u8],
+    form: &mut Form,
+) -> Extent
+    requires few { used < 2 ^ 63 + 3 }
+    requires first { length bytes.now ≤ 15 }
+    ensures { decoded_by result form.new ≡ fields_at row.now narrow repeat used (length bytes.now) modrm (drop used bytes.now) }
+{
+    if has_sib(modrm) {
+        let sib = sib_byte(bytes, used);
+        read_numbers(row, narrow, repeat, used + 1, modrm, sib, bytes, form)
+    } else {
+        read_numbers(row, narrow, repeat, used, modrm, 0, bytes, form)
+    }
+}
+
+/// Reads what follows where there is neither a SIB byte nor a displacement, behind `used` bytes.
+#[inline(always)]
+#[tactic(auto, unfolding(crate::specs::Reading::fields_at))]
+fn read_plain(
+    row: &Row,
+    narrow: bool,
+    repeat: Repeat,
+    used: usize,
+    modrm: u8,
+    bytes: &[u8],
+    form: &mut Form,
+) -> Extent
+    requires few { used < 2 ^ 63 + 3 }
+    requires first { length bytes.now ≤ 15 }
+    requires register { names_register modrm ≡ true }
+    ensures { decoded_by result form.new ≡ fields_at row.now narrow repeat used (length bytes.now) modrm (drop used bytes.now) }
+{
+    let immediate_bytes = immediate_count(row.immediate, narrow);
+    let total = used + immediate_bytes;
+    if bytes.len() < total {
+        return cut_off(total);
+    }
+    let immediate = number_from(bytes, used, immediate_bytes);
+    fill(row, narrow, repeat, modrm, 0, 0, immediate, form);
+    Extent::Whole(total as u8)
+}
+
+/// Reads what follows the opcode of a row with this ModRM byte, behind `used` bytes.
+#[inline(always)]
+fn read_row(
+    row: &Row,
+    narrow: bool,
+    repeat: Repeat,
+    used: usize,
+    modrm: u8,
+    bytes: &[u8],
+    form: &mut Form,
+) -> Extent
+    requires few { used < 2 ^ 63 + 2 }
+    requires first { length bytes.now ≤ 15 }
+    ensures { decoded_by result form.new ≡ row_read (Some row.now) narrow repeat used (length bytes.now) modrm (drop used bytes.now) }
+{
+    if row.barred && narrow || wants_memory(row.modrm) && is_register(modrm) {
+        return Extent::Undefined;
+    }
+    let behind = used + modrm_count(row.modrm);
+    if is_register(modrm) {
+        read_plain(row, narrow, repeat, behind, modrm, bytes, form)
+    } else {
+        read_memory(row, narrow, repeat, behind, modrm, bytes, form)
+    }
+}
+
+/// The ModRM byte at an index, which that of the shortest instruction stands for where the bytes end, or what stands for it
+/// where there is none.
+fn modrm_behind(entry: &Entry, bytes: &[u8], at: usize) -> u8
+    ensures { result ≡ modrm_or (least_modrm entry.now) (drop at bytes.now) }
 {
     match entry {
-        Entry::Invalid => None,
+        Entry::Invalid => NO_MODRM,
         Entry::One(row) => if modrm_count(row.modrm) == 0 {
-            None
+            NO_MODRM
         } else {
-            Some(LEAST_MODRM)
+            byte_at(bytes, at, LEAST_MODRM)
         },
-        Entry::Many(Group::UnaryByte | Group::UnaryFull) => Some(LEAST_UNARY),
-        Entry::Many(Group::BitTest) => Some(LEAST_BIT_TEST),
-        Entry::Many(_) => Some(LEAST_MODRM),
+        Entry::Many(group) => byte_at(bytes, at, least_in(*group)),
     }
 }
 
-/// The ModRM byte, where the bytes have one.
-fn modrm_byte(least: Option<u8>, bytes: &[u8]) -> u8
-    ensures { result ≡ modrm_or least bytes.now }
-{
-    match least {
-        None => NO_MODRM,
-        Some(least) => byte_or(bytes, 0, least),
-    }
-}
-
-/// The row that the reg field picks at an entry.
-fn row_of(entry: &Entry, reg: u8) -> Option<&Row>
+/// The row at an entry with this reg field.
+fn row_in(entry: &'static Entry, reg: u8) -> Option<&'static Row>
     requires { reg < 8 }
     ensures { option_copied result ≡ row_at entry.now reg }
 {
     match entry {
         Entry::Invalid => None,
         Entry::One(row) => Some(row),
-        Entry::Many(group) => group_entry(*group, reg).as_ref(),
+        Entry::Many(group) => match group_entry(*group, reg) {
+            None => None,
+            Some(row) => Some(row),
+        },
     }
 }
 
-/// What follows the ModRM byte, behind `used` bytes of `len`.
-#[tactic(auto, unfolding(crate::specs::Reading::fields_at))]
-fn read_fields(
-    row: &Row,
-    narrow: bool,
-    repeat: Repeat,
-    used: usize,
-    len: usize,
-    modrm: u8,
-    bytes: &[u8],
-) -> Decoded
-    requires { used < 2 ^ 63 + 3 }
-    ensures { result ≡ fields_at row.now narrow repeat used len modrm bytes.now }
-{
-    let sib_bytes = sib_count(modrm);
-    let sib = if sib_bytes == 0 {
-        0
-    } else {
-        byte_or(bytes, 0, 0)
-    };
-    let rest = skip(bytes, sib_bytes);
-    let displacement_bytes = displacement_count(modrm, sib);
-    let displacement = number_at(rest, displacement_bytes);
-    let rest = skip(rest, displacement_bytes);
-    let immediate_bytes = immediate_count(row.immediate, narrow);
-    let immediate = number_at(rest, immediate_bytes);
-    let total = used + sib_bytes + displacement_bytes + immediate_bytes;
-    if LONGEST < total {
-        Decoded::Undefined
-    } else if len < total {
-        Decoded::Short
-    } else {
-        Decoded::Form(
-            form(row, narrow, repeat, modrm, sib, displacement, immediate),
-            total as u8,
-        )
-    }
-}
-
-/// What follows the opcode, behind `used` bytes of `len`.
+/// Reads what follows the opcode, behind `used` bytes.
+#[inline(always)]
 #[tactic(auto, unfolding(crate::specs::Reading::entry_read))]
 fn read_entry(
-    entry: &Entry,
+    entry: &'static Entry,
     narrow: bool,
     repeat: Repeat,
     used: usize,
-    len: usize,
     bytes: &[u8],
-) -> Decoded
-    requires { used < 2 ^ 63 + 2 }
-    ensures { result ≡ entry_read entry.now narrow repeat used len bytes.now }
+    form: &mut Form,
+) -> Extent
+    requires few { used < 2 ^ 63 + 2 }
+    requires first { length bytes.now ≤ 15 }
+    ensures { decoded_by result form.new ≡ entry_read entry.now narrow repeat used (length bytes.now) (drop used bytes.now) }
 {
-    let modrm = modrm_byte(least_modrm_byte(entry), bytes);
-    let Some(row) = row_of(entry, reg_of(modrm)) else {
-        return Decoded::Undefined;
-    };
-    if row.barred && narrow || wants_memory(row.modrm) && is_register(modrm) {
-        return Decoded::Undefined;
+    let modrm = modrm_behind(entry, bytes, used);
+    match row_in(entry, reg_of(modrm)) {
+        None => Extent::Undefined,
+        Some(row) => read_row(row, narrow, repeat, used, modrm, bytes, form),
     }
-    let size = modrm_count(row.modrm);
-    read_fields(
-        row,
-        narrow,
-        repeat,
-        used + size,
-        len,
-        modrm,
-        skip(bytes, size),
-    )
 }
 
 /// The bytes that can belong to the instruction at the front.
@@ -248,38 +326,69 @@ fn first_bytes(bytes: &[u8]) -> &[u8]
     }
 }
 
-#[tactic(auto, unfolding(crate::specs::Reading::answer, crate::specs::Reading::decode_of))]
-fn read(bytes: &[u8]) -> Decoded
-    ensures { result ≡ decode_of bytes.now }
+/// Reads what stands behind `count` prefixes.
+#[inline(always)]
+fn read_behind(bytes: &[u8], count: usize, narrow: bool, repeat: Repeat, form: &mut Form) -> Extent
+    requires few { count < 2 ^ 63 }
+    requires first { length bytes.now ≤ 15 }
+    ensures { decoded_by result form.new ≡ read_at (drop count bytes.now) narrow repeat count (length bytes.now) }
 {
-    let bytes = first_bytes(bytes);
-    let (count, narrow, repeat) = read_prefixes(bytes);
-    let rest = skip(bytes, count);
-    let (entry, size) = read_opcode(rest);
-    read_entry(
-        entry,
-        narrow,
-        repeat,
-        count + size,
-        bytes.len(),
-        skip(rest, size),
-    )
+    let (entry, size) = read_opcode(bytes, count);
+    read_entry(entry, narrow, repeat, count + size, bytes, form)
 }
 
-/// The instruction that the bytes begin with: its form and its length; `Short` where the bytes are the beginning of an
-/// instruction and not all of it, so that more bytes decide; `Undefined` where no instruction begins so, however the
-/// bytes go on. At most 15 bytes are read.
-pub fn decode(bytes: &[u8]) -> Decoded
-    // A form, exactly where its spelling stands at the front.
-    ensures form { (f : Form) (n : ℕ) → (result ≡ Decoded.Form f n) ↔ BeginsWith bytes.now f n }
-    ensures short { (result ≡ Decoded.Short) ↔ BeginsSpelling bytes.now }
-    ensures undefined { (result ≡ Decoded.Undefined) ↔ SpellsNothing bytes.now }
-    // The same as a function that computes.
-    ensures value { result ≡ decode_of bytes.now }
-    ensures well_formed { WhenForm result (λ form size. IsWellFormed form) }
-    ensures not_empty { WhenForm result (λ form size. 1 ≤ size) }
-    ensures limit { WhenForm result (λ form size. size ≤ 15) }
-    ensures within { WhenForm result (λ form size. size ≤ length bytes.now) }
+/// Reads from the prefixes at the front on.
+#[inline(never)]
+#[tactic(auto, unfolding(crate::specs::Reading::answer))]
+fn read_prefixed(bytes: &[u8], form: &mut Form) -> Extent
+    requires { length bytes.now ≤ 15 }
+    ensures { decoded_by result form.new ≡ answer bytes.now }
 {
-    read(bytes)
+    let (count, narrow, repeat) = read_prefixes(bytes);
+    read_behind(bytes, count, narrow, repeat, form)
+}
+
+/// Whether a prefix stands at the front.
+fn begins_with_prefix(bytes: &[u8]) -> bool
+    ensures { result ≡ is_prefixed bytes.now }
+{
+    0 < bytes.len() && is_prefix_byte(bytes[0])
+}
+
+#[tactic(auto, unfolding(crate::specs::Reading::answer))]
+fn read_short(bytes: &[u8], form: &mut Form) -> Extent
+    requires { length bytes.now ≤ 15 }
+    ensures { decoded_by result form.new ≡ answer bytes.now }
+{
+    if begins_with_prefix(bytes) {
+        read_prefixed(bytes, form)
+    } else {
+        read_behind(bytes, 0, false, Repeat::Once, form)
+    }
+}
+
+#[tactic(auto, unfolding(crate::specs::Reading::decode_of))]
+fn read(bytes: &[u8], form: &mut Form) -> Extent
+    ensures { decoded_by result form.new ≡ decode_of bytes.now }
+{
+    read_short(first_bytes(bytes), form)
+}
+
+/// Reads the instruction that the bytes begin with into a form, and gives its length; `Short` where the bytes are the
+/// beginning of an instruction and not all of it, so that more bytes decide; `Undefined` where no instruction begins so,
+/// however the bytes go on. At most 15 bytes are read.
+#[inline(always)]
+pub fn decode(bytes: &[u8], form: &mut Form) -> Extent
+    // A form, exactly where its spelling stands at the front.
+    ensures form { (f : Form) (n : ℕ) → (decoded_by result form.new ≡ decoded.Form f n) ↔ BeginsWith bytes.now f n }
+    ensures short { (decoded_by result form.new ≡ decoded.Short) ↔ BeginsSpelling bytes.now }
+    ensures undefined { (decoded_by result form.new ≡ decoded.Undefined) ↔ SpellsNothing bytes.now }
+    // The same as a function that computes.
+    ensures value { decoded_by result form.new ≡ decode_of bytes.now }
+    ensures well_formed { WhenForm (decoded_by result form.new) (λ form size. IsWellFormed form) }
+    ensures not_empty { WhenForm (decoded_by result form.new) (λ form size. 1 ≤ size) }
+    ensures limit { WhenForm (decoded_by result form.new) (λ form size. size ≤ 15) }
+    ensures within { WhenForm (decoded_by result form.new) (λ form size. size ≤ length bytes.now) }
+{
+    read(bytes, form)
 }

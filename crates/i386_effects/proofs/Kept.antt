@@ -1,14 +1,15 @@
 -- Each effect keeps the side where it is, and what isn't performed keeps all.
 use Rattle.std.proofs.Common.{◌≡◌, ℕ, Bool, true, false, List, [], ◌∷◌, length, refl, ◌∙◌}
-use Rattle.std.specs.Prelude.{Option, Some, None, if◌then◌else◌}
+use Rattle.std.specs.Prelude.{Option, Some, None, Result, Ok, Err, if◌then◌else◌}
 use Rattle.memory_model.proofs.Stores.{same_place}
 use Rattle.memory_model.specs.Laws.{SamePlace}
 use Rattle.memory_model.specs.Side.{Side, inside, word_stored, stored_inside}
 use Rattle.cpu_state.specs.Width.{size}
 use Rattle.cpu_state.specs.Bus.{State, Ports, all_mine}
 use Rattle.cpu_state.specs.declared.registers.Registers.{Registers}
-use Rattle.i386_effects.specs.Accesses.{first_outside_store, all_stored}
-use Rattle.i386_effects.specs.Effect.{Effect, changed, commit_unless, committed, written, KeepsIfOutside, KeepsUnlessPerformed}
+use Rattle.i386_effects.specs.Accesses.{all_loaded, first_outside_store, all_stored}
+use Rattle.i386_effects.specs.Effect.{Effect, after_loads, effect_of, changed, commit_unless, committed, written, KeepsIfOutside, KeepsUnlessPerformed}
+use Rattle.i386_effects.specs.declared.lists.Touch.{Touch}
 use Rattle.i386_effects.specs.declared.lists.Write.{Write}
 use Rattle.i386_effects.specs.Change.{Change}
 use Rattle.i386_effects.specs.Change as change
@@ -70,3 +71,19 @@ stays_changed ports regs st (change.Out after port w value) = stays_choice st (a
 stays_changed ports regs st (change.Trap vector) = stays st.side
 stays_changed ports regs st (change.Interrupt vector) = stays st.side
 stays_changed ports regs st (change.Privileged kind length) = stays st.side
+
+-- ---- with loads
+
+kept_loads : {D : Type 0} (ports : Ports D) (regs : Registers) (st : State D) (C : List ℕ → Change) (r : Result (List ℕ) ℕ) → KeepsUnlessPerformed regs st (after_loads ports regs st C r)
+kept_loads ports regs st C (Err at) = λ h. (refl, refl)
+kept_loads ports regs st C (Ok words) = kept_changed ports regs st (C words)
+
+pub kept_effect : {D : Type 0} (ports : Ports D) (touches : List Touch) (C : List ℕ → Change) (regs : Registers) (st : State D) → KeepsUnlessPerformed regs st (effect_of ports touches C regs st)
+kept_effect ports touches C regs st = kept_loads ports regs st C (all_loaded st.side touches)
+
+stays_loads : {D : Type 0} (ports : Ports D) (regs : Registers) (st : State D) (C : List ℕ → Change) (r : Result (List ℕ) ℕ) → SamePlace st.side (after_loads ports regs st C r).bus.side
+stays_loads ports regs st C (Err at) = stays st.side
+stays_loads ports regs st C (Ok words) = stays_changed ports regs st (C words)
+
+pub stays_effect : {D : Type 0} (ports : Ports D) (touches : List Touch) (C : List ℕ → Change) (regs : Registers) (st : State D) → SamePlace st.side (effect_of ports touches C regs st).bus.side
+stays_effect ports touches C regs st = stays_loads ports regs st C (all_loaded st.side touches)

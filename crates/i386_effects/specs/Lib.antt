@@ -2,3 +2,4 @@ pub mod Operands
 pub mod Accesses
 pub mod Change
 pub mod Effect
+pub mod Direct

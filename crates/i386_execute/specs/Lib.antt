@@ -11,3 +11,4 @@ pub mod Loads
 pub mod Changes
 pub mod Unit
 pub mod OwnFlag
+pub mod Direct

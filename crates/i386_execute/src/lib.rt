@@ -4,6 +4,7 @@
 mod arithmetic;
 mod bits;
 mod changes;
+mod direct;
 mod flags;
 mod interrupts;
 mod jumps;
@@ -13,8 +14,6 @@ mod own_flag;
 mod products;
 mod results;
 mod stack;
-#[cfg(test)]
-mod tests;
 mod unit;
 
 pub use own_flag::privileged;

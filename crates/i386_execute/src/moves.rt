@@ -36,7 +36,7 @@ pub(crate) fn exchanged(form: &Form, regs: &mut Registers, words: &[u32]) -> End
 }
 
 // An operand with its sign, as a doubleword.
-fn extended(width: Width, a: u32) -> u32
+pub(crate) fn extended(width: Width, a: u32) -> u32
     requires { a < modulus width }
     ensures { result ≡ extended width a }
 {
@@ -48,7 +48,7 @@ fn extended(width: Width, a: u32) -> u32
 }
 
 // The width that a number of bits names.
-fn width_named(operand: &Operand) -> Width
+pub(crate) fn width_named(operand: &Operand) -> Width
     ensures { result ≡ width_named operand.now }
 {
     match operand {
@@ -146,7 +146,7 @@ pub(crate) fn sign_spread(form: &Form, regs: &mut Registers) -> Ending
 }
 
 // The address that an operand names.
-fn place(operand: &Operand, general: &[u32; 8]) -> u32
+pub(crate) fn place(operand: &Operand, general: &[u32; 8]) -> u32
     ensures { result ≡ place_of operand.now general.now }
 {
     match operand {

@@ -11,7 +11,7 @@ use i386_decode::{Form, Operand};
 use i386_effects::{ACCUMULATOR, AH, DATA, Ending, Stores, part, set_part, value};
 
 // The register of the high half: AH, DX or EDX.
-fn high_half(width: Width) -> u8
+pub(crate) fn high_half(width: Width) -> u8
     ensures { result ≡ high_half width }
 {
     match width {
@@ -22,7 +22,7 @@ fn high_half(width: Width) -> u8
 }
 
 // Puts both halves in their places.
-fn set_halves(width: Width, low: u32, high: u32, general: &mut [u32; 8])
+pub(crate) fn set_halves(width: Width, low: u32, high: u32, general: &mut [u32; 8])
     ensures { general.new ≡ with_halves width low high general.old }
 {
     set_part(width, ACCUMULATOR, low, general);
