@@ -5,7 +5,8 @@ use Rattle.cpu_state.specs.declared.registers.Access.{Access}
 use Rattle.cpu_state.specs.declared.registers.Access.TheVariants.{Load as Loading, Store as Storing, Fetch as Fetching}
 use Rattle.cpu_state.specs.declared.registers.Privileged.{Privileged as PrivilegedUse}
 use Rattle.cpu_state.specs.declared.registers.Privileged.TheVariants.{Cli as CliUse, Sti as StiUse, Iret as IretUse, Pushf as PushfUse, Popf as PopfUse, Hlt as HltUse}
-use Rattle.i386_execute.specs.Unit.{Effect, address_behind}
+use Rattle.i386_effects.specs.Effect.{Effect}
+use Rattle.i386_execute.specs.Unit.{address_behind}
 use Rattle.breach_monitor.specs.GuestUnit.{answer_to}
 use Rattle.breach_monitor.specs.declared.guest.Breach.{Breach as BreachOf}
 use Rattle.breach_monitor.specs.declared.guest.Breach.TheVariants.{Privileged, Int as IntOf, Port as PortOf, Outside}

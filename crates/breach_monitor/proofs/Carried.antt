@@ -15,15 +15,15 @@ use Rattle.i386_decode.specs.declared.form.Form.{Form}
 use Rattle.i386_effects.specs.Accesses.{all_loaded, first_outside_store}
 use Rattle.i386_effects.specs.Change.{Change}
 use Rattle.i386_effects.specs.Change as of
-use Rattle.i386_effects.specs.Effect.{Effect as FormEffect, Commit, commit_unless, written, changed, after_loads, effect_of}
-use Rattle.i386_effects.specs.declared.lists.Touch.{Touch}
-use Rattle.i386_effects.specs.declared.lists.Write.{Write}
+use Rattle.i386_effects.specs.Effect.{Effect, Commit, commit_unless, written, changed, after_loads, effect_of}
+use Rattle.i386_effects.specs.declared.accesses.Touch.{Touch}
+use Rattle.i386_effects.specs.declared.accesses.Write.{Write}
 use Rattle.i386_strings.specs.Iteration.{IterationEffect, iteration, iterated, string_loads, string_writes, repeats, ended}
 use Rattle.i386_strings.specs.Iteration as strings
 use Rattle.i386_execute.specs.Changes.{change}
 use Rattle.i386_execute.specs.Loads.{loads}
 use Rattle.i386_execute.specs.OwnFlag.{flag_loads, flag_change, flag_unit}
-use Rattle.i386_execute.specs.Unit.{Effect, moved_on, performed, unit_of, string_unit, unit_by, fetched_at, unit}
+use Rattle.i386_execute.specs.Unit.{moved_on, performed, string_unit, unit_by, fetched_at, unit}
 use Rattle.breach_monitor.specs.Laws.{with_devices, effect_with}
 
 -- the ports q do to devices what the ports p do to those that these are carried to
@@ -46,9 +46,6 @@ if_carried h false true e x y x' y' k l = cc
 abbrev commit_with : {D E : Type 0} → (E → D) → Commit E → Commit D
 commit_with g c = record { outside = c.outside; registers = c.registers; bus = with_devices g c.bus }
 
-abbrev form_with : {D E : Type 0} → (E → D) → FormEffect E → FormEffect D
-form_with g e = record { outcome = e.outcome; registers = e.registers; bus = with_devices g e.bus }
-
 abbrev iteration_with : {D E : Type 0} → (E → D) → IterationEffect E → IterationEffect D
 iteration_with g e = record { iteration = e.iteration; registers = e.registers; bus = with_devices g e.bus }
 
@@ -60,30 +57,30 @@ commit g regs after st writes (Some at) = refl
 -- ---- instructions that aren't string instructions
 
 changes : {D E : Type 0} (g : E → D) (p : Ports D) (q : Ports E) (regs : Registers) (st : State E) (c : Change) → Carries g p q st.devices
-    → changed p regs (with_devices g st) c ≡ form_with g (changed q regs st c)
+    → changed p regs (with_devices g st) c ≡ effect_with g (changed q regs st c)
 changes g p q regs st (of.Done after writes) k = ap written (commit g regs after st writes (first_outside_store st.side writes))
 changes g p q regs st (of.In after port w) k =
     let answer = k.answer port (size w) in
     let devices = k.after_in port (size w) in
-    if_carried (form_with g) (all_mine p port (size w)) (all_mine q port (size w)) (same_mine p q k.mine (size w) port) _ _ _ _ (cc) refl
+    if_carried (effect_with g) (all_mine p port (size w)) (all_mine q port (size w)) (same_mine p q k.mine (size w) port) _ _ _ _ (cc) refl
 changes g p q regs st (of.Out after port w value) k =
     let devices = k.after_out port (size w) value in
-    if_carried (form_with g) (all_mine p port (size w)) (all_mine q port (size w)) (same_mine p q k.mine (size w) port) _ _ _ _ (cc) refl
+    if_carried (effect_with g) (all_mine p port (size w)) (all_mine q port (size w)) (same_mine p q k.mine (size w) port) _ _ _ _ (cc) refl
 changes g p q regs st (of.Trap vector) k = refl
 changes g p q regs st (of.Interrupt vector) k = refl
 changes g p q regs st (of.Privileged kind n) k = refl
 
 loaded : {D E : Type 0} (g : E → D) (p : Ports D) (q : Ports E) (regs : Registers) (st : State E) (change_by : List ℕ → Change) (o : Result (List ℕ) ℕ)
-    → Carries g p q st.devices → after_loads p regs (with_devices g st) change_by o ≡ form_with g (after_loads q regs st change_by o)
+    → Carries g p q st.devices → after_loads p regs (with_devices g st) change_by o ≡ effect_with g (after_loads q regs st change_by o)
 loaded g p q regs st change_by (Err at) k = refl
 loaded g p q regs st change_by (Ok words) k = changes g p q regs st (change_by words) k
 
 effects : {D E : Type 0} (g : E → D) (p : Ports D) (q : Ports E) (touches : List Touch) (change_by : List ℕ → Change) (regs : Registers) (st : State E)
-    → Carries g p q st.devices → effect_of p touches change_by regs (with_devices g st) ≡ form_with g (effect_of q touches change_by regs st)
+    → Carries g p q st.devices → effect_of p touches change_by regs (with_devices g st) ≡ effect_with g (effect_of q touches change_by regs st)
 effects g p q touches change_by regs st k = loaded g p q regs st change_by (all_loaded st.side touches) k
 
 forms : {D E : Type 0} (g : E → D) (p : Ports D) (q : Ports E) (form : Form) (n : ℕ) (regs : Registers) (st : State E)
-    → Carries g p q st.devices → performed p form n regs (with_devices g st) ≡ form_with g (performed q form n regs st)
+    → Carries g p q st.devices → performed p form n regs (with_devices g st) ≡ effect_with g (performed q form n regs st)
 unfolding performed
 forms g p q form n regs st k =
     effects g p q (loads form.op form (moved_on n regs)) (change form.op form n (moved_on n regs)) regs st k
@@ -108,7 +105,7 @@ iterations g form regs st =
 units_by : {D E : Type 0} (g : E → D) (p : Ports D) (q : Ports E) (fetched : ℕ) (regs : Registers) (st : State E) (d : Decoded)
     → Carries g p q st.devices → unit_by fetched p regs (with_devices g st) d ≡ effect_with g (unit_by fetched q regs st d)
 units_by g p q fetched regs st (Spelled form n) k =
-    if_carried (effect_with g) (is_string form.op) (is_string form.op) refl _ _ _ _ (ap (string_unit n) (iterations g form regs st)) (ap unit_of (forms g p q form n regs st k))
+    if_carried (effect_with g) (is_string form.op) (is_string form.op) refl _ _ _ _ (ap (string_unit n) (iterations g form regs st)) (forms g p q form n regs st k)
 units_by g p q fetched regs st Undefined k = refl
 units_by g p q fetched regs st Short k = refl
 
@@ -120,7 +117,7 @@ unit_carried g p q regs st k = units_by g p q (length (fetched_at regs.eip st.si
 pub flag_unit_carried : {D E : Type 0} (g : E → D) (p : Ports D) (q : Ports E) (kind : PrivilegedUse) (n : ℕ) (regs : Registers) (st : State E)
     → Carries g p q st.devices → flag_unit p kind n regs (with_devices g st) ≡ effect_with g (flag_unit q kind n regs st)
 unfolding flag_unit
-flag_unit_carried g p q kind n regs st k = ap unit_of (effects g p q (flag_loads kind (moved_on n regs)) (flag_change kind n (moved_on n regs)) regs st k)
+flag_unit_carried g p q kind n regs st k = effects g p q (flag_loads kind (moved_on n regs)) (flag_change kind n (moved_on n regs)) regs st k
 
 -- ---- what each access to a port keeps true of the devices, a unit keeps true of them: they are carried with a proof of it
 

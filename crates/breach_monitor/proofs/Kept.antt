@@ -4,7 +4,8 @@ use Rattle.cpu_state.specs.Bus.{State}
 use Rattle.cpu_state.specs.declared.registers.Privileged.{Privileged}
 use Rattle.cpu_state.specs.declared.registers.Registers.{Registers}
 use Rattle.i386_execute.specs.OwnFlag.{flag_unit}
-use Rattle.i386_execute.specs.Unit.{Effect, unit}
+use Rattle.i386_effects.specs.Effect.{Effect}
+use Rattle.i386_execute.specs.Unit.{unit}
 use Rattle.line_sets.proofs.LineSetLemmas.{has-with_other, with_line-lt}
 use Rattle.pic_8259.specs.Controllers.{Controllers, IsPair, risen}
 use Rattle.port_map.specs.declared.owner.Owner.{Owner}

@@ -1,7 +1,8 @@
 -- A board, and the serial port that its owner sees of it.
 use Rattle.std.proofs.Common.{◌≡◌, ℕ, Bool, true, false, not, ◌&&◌, refl, sym, ap, ◌∙◌}
 use Rattle.cpu_state.specs.Bus.{State}
-use Rattle.i386_execute.specs.Unit.{Effect, unit}
+use Rattle.i386_effects.specs.Effect.{Effect}
+use Rattle.i386_execute.specs.Unit.{unit}
 use Rattle.port_map.specs.declared.owner.Owner.{Owner}
 use Rattle.port_map.specs.declared.owner.Owner.TheVariants.{Guest, RealTime}
 use Rattle.port_map.specs.Owner.{line_of_owner}

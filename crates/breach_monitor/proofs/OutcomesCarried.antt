@@ -4,10 +4,11 @@ use Rattle.cpu_state.specs.Bus.{State, Ports}
 use Rattle.cpu_state.specs.declared.registers.Privileged.{Privileged as PrivilegedUse}
 use Rattle.cpu_state.specs.declared.registers.Privileged.TheVariants.{Cli, Sti, Iret, Pushf, Popf, Hlt}
 use Rattle.cpu_state.specs.declared.registers.Registers.{Registers}
+use Rattle.i386_effects.specs.Effect.{Effect}
 use Rattle.i386_execute.specs.OwnFlag.{flag_unit}
-use Rattle.i386_execute.specs.Unit.{Effect, unit}
-use Rattle.i386_execute.specs.declared.unit.Stepped.{Stepped}
-use Rattle.i386_execute.specs.declared.unit.Stepped.TheVariants.{Next, Trap, Interrupt, Privileged, Outside, Port}
+use Rattle.i386_execute.specs.Unit.{unit}
+use Rattle.i386_effects.specs.declared.stepped.Stepped.{Stepped}
+use Rattle.i386_effects.specs.declared.stepped.Stepped.TheVariants.{Next, Trap, Interrupt, Privileged, Outside, Port}
 use Rattle.breach_monitor.specs.Laws.{with_devices, effect_with, outcome_with}
 use Rattle.breach_monitor.specs.RealTimeUnit.{used_by, on_flag, used, came_to, real_time}
 use Rattle.breach_monitor.proofs.Carried.{Carries, unit_carried, flag_unit_carried}

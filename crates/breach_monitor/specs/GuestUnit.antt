@@ -1,7 +1,7 @@
 -- What a unit of the guest comes to, from what the processor's unit came to.
 use Rattle.std.specs.Prelude.{ℕ, nat_le, nat_lt, if◌then◌else◌}
-use Rattle.i386_execute.specs.declared.unit.Stepped.{Stepped}
-use Rattle.i386_execute.specs.declared.unit.Stepped.TheVariants.{Next as Performed, Trap, Interrupt, Privileged as PrivilegedUse, Outside as OutsideAccess, Port as OwnedPort}
+use Rattle.i386_effects.specs.declared.stepped.Stepped.{Stepped}
+use Rattle.i386_effects.specs.declared.stepped.Stepped.TheVariants.{Next as Performed, Trap, Interrupt, Privileged as PrivilegedUse, Outside as OutsideAccess, Port as OwnedPort}
 use Rattle.breach_monitor.specs.declared.guest.Breach.TheVariants.{Privileged, Int, Port, Outside}
 use Rattle.breach_monitor.specs.declared.guest.GuestUnit.{GuestUnit}
 use Rattle.breach_monitor.specs.declared.guest.GuestUnit.TheVariants.{Next, Enter, Gate, Breach}

@@ -2,7 +2,8 @@
 use Rattle.std.specs.Prelude.{◌≡◌, ℕ, Option, if◌then◌else◌}
 use Rattle.cpu_state.specs.Bus.{State}
 use Rattle.cpu_state.specs.declared.registers.Registers.{Registers}
-use Rattle.i386_execute.specs.Unit.{Effect, unit}
+use Rattle.i386_effects.specs.Effect.{Effect}
+use Rattle.i386_execute.specs.Unit.{unit}
 use Rattle.line_sets.specs.LineSet.{with_line}
 use Rattle.pic_8259.specs.Controllers.{risen}
 use Rattle.port_map.specs.declared.owner.Owner.{Owner}

@@ -5,10 +5,11 @@ use Rattle.cpu_state.specs.Bus.{State, Ports}
 use Rattle.cpu_state.specs.declared.registers.Privileged.{Privileged as PrivilegedUse}
 use Rattle.cpu_state.specs.declared.registers.Privileged.TheVariants.{Cli, Sti, Iret, Pushf, Popf, Hlt}
 use Rattle.cpu_state.specs.declared.registers.Registers.{Registers}
+use Rattle.i386_effects.specs.Effect.{Effect}
 use Rattle.i386_execute.specs.OwnFlag.{flag_unit}
-use Rattle.i386_execute.specs.Unit.{Effect, unit, address_behind}
-use Rattle.i386_execute.specs.declared.unit.Stepped.{Stepped}
-use Rattle.i386_execute.specs.declared.unit.Stepped.TheVariants.{Next as Performed, Trap, Interrupt, Privileged as Uses, Outside, Port as OwnedPort}
+use Rattle.i386_execute.specs.Unit.{unit, address_behind}
+use Rattle.i386_effects.specs.declared.stepped.Stepped.{Stepped}
+use Rattle.i386_effects.specs.declared.stepped.Stepped.TheVariants.{Next as Performed, Trap, Interrupt, Privileged as Uses, Outside, Port as OwnedPort}
 use Rattle.line_kinds.specs.declared.kinds.FaultKind.{FaultKind}
 use Rattle.line_kinds.specs.declared.kinds.FaultKind.TheVariants.{Divide, Opcode, Int, Memory, Port, Privileged}
 use Rattle.breach_monitor.specs.declared.real_time.RealTimeUnit.{RealTimeUnit}

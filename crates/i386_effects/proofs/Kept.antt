@@ -9,8 +9,8 @@ use Rattle.cpu_state.specs.Bus.{State, Ports, all_mine}
 use Rattle.cpu_state.specs.declared.registers.Registers.{Registers}
 use Rattle.i386_effects.specs.Accesses.{all_loaded, first_outside_store, all_stored}
 use Rattle.i386_effects.specs.Effect.{Effect, after_loads, effect_of, changed, commit_unless, committed, written, KeepsIfOutside, KeepsUnlessPerformed}
-use Rattle.i386_effects.specs.declared.lists.Touch.{Touch}
-use Rattle.i386_effects.specs.declared.lists.Write.{Write}
+use Rattle.i386_effects.specs.declared.accesses.Touch.{Touch}
+use Rattle.i386_effects.specs.declared.accesses.Write.{Write}
 use Rattle.i386_effects.specs.Change.{Change}
 use Rattle.i386_effects.specs.Change as change
 

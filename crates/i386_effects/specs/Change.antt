@@ -4,11 +4,7 @@ use Rattle.cpu_state.specs.declared.registers.Privileged.{Privileged as Privileg
 use Rattle.cpu_state.specs.declared.registers.Registers.{Registers}
 use Rattle.cpu_state.specs.declared.width.Width.{Width}
 use Rattle.cpu_state.specs.declared.width.Width.TheVariants.{W32}
-use Rattle.i386_effects.specs.declared.change.Ending.{Ending}
-use Rattle.i386_effects.specs.declared.change.Ending.TheVariants as ending
-use Rattle.i386_effects.specs.declared.lists.Stores.{Stores}
-use Rattle.i386_effects.specs.declared.lists.Stores.TheVariants.{Nothing, One, Eight}
-use Rattle.i386_effects.specs.declared.lists.Write.{Write}
+use Rattle.i386_effects.specs.declared.accesses.Write.{Write}
 
 pub data Change : Type 0 where
   -- these registers, and stores in order
@@ -32,18 +28,3 @@ pushed_word top words i = record { at = (top + (2 ^ 32 - (4 * i + 4))) % 2 ^ 32;
 abbrev pub eight_pushed : ℕ → List ℕ → List Write
 eight_pushed top ws =
     pushed_word top ws 0 ∷ pushed_word top ws 1 ∷ pushed_word top ws 2 ∷ pushed_word top ws 3 ∷ pushed_word top ws 4 ∷ pushed_word top ws 5 ∷ pushed_word top ws 6 ∷ pushed_word top ws 7 ∷ []
-
--- stores as a list
-abbrev pub stores_of : Stores → List Write
-stores_of Nothing = []
-stores_of (One x) = x ∷ []
-stores_of (Eight top words) = eight_pushed top words
-
--- an ending with the registers before it
-abbrev pub whole : Ending → Registers → Change
-whole (ending.Done stores) r = Done r (stores_of stores)
-whole (ending.In port w) r = In r port w
-whole (ending.Out port w value) r = Out r port w value
-whole (ending.Trap vector) r = Trap vector
-whole (ending.Interrupt vector) r = Interrupt vector
-whole (ending.Privileged kind n) r = Privileged kind n

@@ -1,4 +1,4 @@
--- The effect of an instruction: its loads in order, then what it changes, and one outcome. Every outcome but Performed changes
+-- The effect of an instruction: its loads in order, then what it changes, and one outcome. Every outcome but Next changes
 -- nothing (that an instruction with an access outside is given up whole is this machine's own rule).
 use Rattle.std.specs.Prelude.{◌≡◌, ◌≢◌, ℕ, List, Option, Some, None, Result, Ok, Err, if◌then◌else◌}
 use Rattle.cpu_state.specs.Bus.{State, Ports, all_mine}
@@ -8,22 +8,25 @@ use Rattle.cpu_state.specs.declared.registers.Registers.{Registers}
 use Rattle.cpu_state.specs.declared.width.Width.{Width}
 use Rattle.i386_effects.specs.Accesses.{all_loaded, first_outside_store, all_stored}
 use Rattle.i386_effects.specs.Operands.{with_part}
-use Rattle.i386_effects.specs.declared.lists.Touch.{Touch}
-use Rattle.i386_effects.specs.declared.lists.Write.{Write}
+use Rattle.i386_effects.specs.declared.accesses.Touch.{Touch}
+use Rattle.i386_effects.specs.declared.accesses.Write.{Write}
 use Rattle.i386_effects.specs.Change.{Change}
 use Rattle.i386_effects.specs.Change as change
-use Rattle.i386_effects.specs.declared.change.Outcome.{Outcome}
-use Rattle.i386_effects.specs.declared.change.Outcome.TheVariants.{Performed, Trap, Interrupt, Privileged, Outside, Port}
+use Rattle.i386_effects.specs.declared.stepped.Stepped.{Stepped}
+use Rattle.i386_effects.specs.declared.stepped.Stepped.TheVariants.{Next, Trap, Interrupt, Privileged, Outside, Port}
 
--- the outcome, with the registers and what the bus reaches after it
+-- what a unit came to, with the registers and what the bus reaches after it
 pub record Effect (D : Type 0) : Type 0 where
-  pub outcome : Outcome
+  pub stepped : Stepped
   pub registers : Registers
   pub bus : State D
 
+abbrev pub came_to : {D : Type 0} → Stepped → Registers → State D → Effect D
+came_to stepped regs st = record { stepped = stepped; registers = regs; bus = st }
+
 -- an outcome that changes nothing
-abbrev pub unchanged : {D : Type 0} → Outcome → Registers → State D → Effect D
-unchanged outcome regs st = record { outcome = outcome; registers = regs; bus = st }
+abbrev pub unchanged : {D : Type 0} → Stepped → Registers → State D → Effect D
+unchanged stepped regs st = came_to stepped regs st
 
 -- new registers and stores that are made together or not at all: the first store that lies outside, if there is one, with the
 -- registers and what the bus reaches after it
@@ -43,12 +46,12 @@ commit_unless regs st after writes None = record {
 abbrev pub committed : {D : Type 0} → Registers → State D → Registers → List Write → Commit D
 committed regs st after writes = commit_unless regs st after writes (first_outside_store st.side writes)
 
-abbrev pub stored_or : Option ℕ → Outcome
-stored_or None = Performed
+abbrev pub stored_or : Option ℕ → Stepped
+stored_or None = Next
 stored_or (Some at) = Outside Store at
 
 abbrev pub written : {D : Type 0} → Commit D → Effect D
-written c = record { outcome = stored_or c.outside; registers = c.registers; bus = c.bus }
+written c = record { stepped = stored_or c.outside; registers = c.registers; bus = c.bus }
 
 -- the registers with the answer of a port in AL, AX or EAX
 abbrev pub received : Width → ℕ → Registers → Registers
@@ -59,14 +62,14 @@ abbrev pub changed : {D : Type 0} → Ports D → Registers → State D → Chan
 changed ports regs st (change.Done after writes) = written (committed regs st after writes)
 changed ports regs st (change.In after port w) =
     if all_mine ports port (size w) then record {
-      outcome = Performed;
+      stepped = Next;
       registers = received w (ports.answer st.devices port (size w)) after;
       bus = record st { devices = ports.after_in st.devices port (size w) };
     }
     else unchanged (Port port) regs st
 changed ports regs st (change.Out after port w value) =
     if all_mine ports port (size w) then record {
-      outcome = Performed;
+      stepped = Next;
       registers = after;
       bus = record st { devices = ports.after_out st.devices port (size w) value };
     }
@@ -90,4 +93,4 @@ KeepsIfOutside regs st c = c.outside ≢ None → (c.registers ≡ regs) × (c.b
 
 -- what isn't performed changes nothing
 abbrev pub KeepsUnlessPerformed : {D : Type 0} → Registers → State D → Effect D → Type 0
-KeepsUnlessPerformed regs st e = e.outcome ≢ Performed → (e.registers ≡ regs) × (e.bus ≡ st)
+KeepsUnlessPerformed regs st e = e.stepped ≢ Next → (e.registers ≡ regs) × (e.bus ≡ st)

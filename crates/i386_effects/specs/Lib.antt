@@ -2,4 +2,3 @@ pub mod Operands
 pub mod Accesses
 pub mod Change
 pub mod Effect
-pub mod Direct

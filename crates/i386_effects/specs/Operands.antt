@@ -1,14 +1,15 @@
 -- Operands: registers by their width, addresses, and what is loaded from and stored to memory (Intel 80386 manual, sections
 -- 2.3.1 and 2.5).
-use Rattle.std.specs.Prelude.{ℕ, ◌+◌, ◌*◌, ◌/◌, ◌%◌, ◌^◌, nat_lt, Option, Some, None, List, [], ◌∷◌, slice_index, slice_set, if◌then◌else◌}
-use Rattle.cpu_state.specs.Width.{modulus}
+use Rattle.std.specs.Prelude.{ℕ, ◌+◌, ◌*◌, ◌/◌, ◌%◌, ◌^◌, nat_lt, Option, Some, None, Result, Ok, Err, List, [], ◌∷◌, slice_index, slice_set, if◌then◌else◌}
+use Rattle.memory_model.specs.Side.{Side, inside, word_at}
+use Rattle.cpu_state.specs.Width.{size, modulus}
 use Rattle.cpu_state.specs.declared.width.Width.{Width}
 use Rattle.cpu_state.specs.declared.width.Width.TheVariants.{W8, W16, W32}
 use Rattle.i386_decode.specs.declared.form.Address.{Address}
 use Rattle.i386_decode.specs.declared.form.Operand.{Operand}
 use Rattle.i386_decode.specs.declared.form.Operand.TheVariants.{Absent, Register, Memory, Immediate}
-use Rattle.i386_effects.specs.declared.lists.Touch.{Touch}
-use Rattle.i386_effects.specs.declared.lists.Write.{Write}
+use Rattle.i386_effects.specs.declared.accesses.Touch.{Touch}
+use Rattle.i386_effects.specs.declared.accesses.Write.{Write}
 
 -- a register of a width among the eight general ones: EAX to EDI, AX to DI, or AL CL DL BL AH CH DH BH (figure 2-5)
 abbrev pub part : Width → ℕ → List ℕ → ℕ
@@ -44,6 +45,14 @@ value_of w Absent g loaded = 0
 value_of w (Register r) g loaded = part w r g
 value_of w (Memory a) g loaded = loaded % modulus w
 value_of w (Immediate x) g loaded = x % modulus w
+
+-- an operand's value, read where it stands, or the address where it lies outside
+abbrev pub read_of : Side → Width → Operand → List ℕ → Result ℕ ℕ
+read_of side w (Memory a) g =
+    if inside side (address_of a g) (size w) then Ok (word_at side (address_of a g) (size w) % modulus w) else Err (address_of a g)
+read_of side w (Register r) g = Ok (part w r g)
+read_of side w (Immediate x) g = Ok (x % modulus w)
+read_of side w Absent g = Ok 0
 
 -- the load of an operand, if it stands in memory
 abbrev pub touches_of : Width → Operand → List ℕ → List Touch

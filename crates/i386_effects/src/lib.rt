@@ -1,13 +1,13 @@
-//! Effects of i386 instructions over any bus: the operands of a form, its loads and stores in their order, and what they
-//! come to. All is computed before anything is written.
+//! Effects of i386 instructions over any bus: their operands, read and written where they stand, and what an effect comes to.
+//! Nothing is written before it is known that all of it can be.
 #![tactic(auto)]
 
-mod change;
-mod direct;
-mod lists;
+mod accesses;
+mod eight;
 mod operands;
+mod stepped;
 
-pub use change::{Ending, Outcome, apply, commit, load_all};
-pub use direct::{finish, read};
-pub use lists::{Stores, Touch, Touches, Words, Write, word};
-pub use operands::{ACCUMULATOR, AH, DATA, address, part, set, set_part, store, touch, value};
+pub use accesses::{Touch, Words, Write, load_all, word};
+pub use eight::push_eight;
+pub use operands::{ACCUMULATOR, AH, DATA, address, finish, part, read, set, set_part, value};
+pub use stepped::Stepped;

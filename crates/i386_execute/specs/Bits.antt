@@ -1,5 +1,6 @@
 -- Bit tests and bit scans (Intel 80386 manual, sections 3.4.2 and 3.4.3, and BT, BTS, BTR, BTC, BSF and BSR in chapter 17).
-use Rattle.std.specs.Prelude.{ℕ, ◌+◌, ◌-◌, ◌*◌, ◌/◌, ◌%◌, ◌^◌, List, [], ◌∷◌, Option, Some, None, if◌then◌else◌}
+use Rattle.std.specs.Prelude.{ℕ, ◌+◌, ◌-◌, ◌*◌, ◌/◌, ◌%◌, ◌^◌, List, [], ◌∷◌, Option, Some, None, Result, Ok, Err, if◌then◌else◌}
+use Rattle.memory_model.specs.Side.{Side, inside, word_at}
 use Rattle.cpu_state.specs.Width.{size, bits, modulus, top}
 use Rattle.cpu_state.specs.declared.registers.Registers.{Registers}
 use Rattle.cpu_state.specs.declared.width.Width.{Width}
@@ -11,8 +12,8 @@ use Rattle.i386_decode.specs.declared.form.Operand.{Operand}
 use Rattle.i386_decode.specs.declared.form.Operand.TheVariants.{Memory, Register}
 use Rattle.i386_effects.specs.Operands.{part, address_of, value_of, with_operand}
 use Rattle.i386_effects.specs.Change.{Change, Done}
-use Rattle.i386_effects.specs.declared.lists.Touch.{Touch}
-use Rattle.i386_effects.specs.declared.lists.Write.{Write}
+use Rattle.i386_effects.specs.declared.accesses.Touch.{Touch}
+use Rattle.i386_effects.specs.declared.accesses.Write.{Write}
 use Rattle.i386_execute.specs.Results.{first, second, computed, flagged}
 
 -- how many bytes away the operand stands that holds bit n, a signed number of the width, modulo 2^32: n divided by the bits of
@@ -36,6 +37,11 @@ write_at w x None = []
 
 unfoldable pub tested_touches : Form → Registers → List Touch
 tested_touches f r = touch_at f.width (tested_at f.width f.first f.second r.general)
+
+-- the tested operand, read where it stands, or the address where it lies outside
+abbrev pub tested_read : Side → Width → Operand → Option ℕ → List ℕ → Result ℕ ℕ
+tested_read side w o (Some at) g = if inside side at (size w) then Ok (value_of w o g (word_at side at (size w))) else Err at
+tested_read side w o None g = Ok (value_of w o g 0)
 
 -- the bit of the operand, by its number modulo the width
 abbrev pub bit_tested : Form → Registers → List ℕ → Computed

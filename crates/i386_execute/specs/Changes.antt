@@ -96,5 +96,5 @@ change op.Popf f n r ws = Privileged Popf n
 change op.In f n r ws = port_read f r
 change op.Out f n r ws = port_written f r
 change op.Hlt f n r ws = Privileged Hlt n
--- MOVS, CMPS, STOS, LODS and SCAS have no row here: their unit is one iteration
+-- MOVS, CMPS, STOS, LODS and SCAS have no row here: their unit is one iteration, so that this row never comes
 change o f n r ws = Trap 6

@@ -11,4 +11,3 @@ pub mod Loads
 pub mod Changes
 pub mod Unit
 pub mod OwnFlag
-pub mod Direct

@@ -7,7 +7,7 @@ use Rattle.cpu_state.specs.declared.registers.Registers.{Registers}
 use Rattle.cpu_state.specs.declared.width.Width.TheVariants.{W32}
 use Rattle.i386_decode.specs.declared.form.Form.{Form}
 use Rattle.i386_effects.specs.Operands.{touches_of}
-use Rattle.i386_effects.specs.declared.lists.Touch.{Touch}
+use Rattle.i386_effects.specs.declared.accesses.Touch.{Touch}
 use Rattle.i386_execute.specs.Bits.{tested_touches}
 use Rattle.i386_execute.specs.Moves.{extended_touches, table_touches}
 use Rattle.i386_execute.specs.Stack.{top_touches, all_touches, frame_touches}
@@ -72,5 +72,6 @@ loads op.Jmp f r = first_touches f r
 loads op.Call f r = first_touches f r
 loads op.Ret f r = top_touches W32 r
 loads op.Leave f r = frame_touches r
--- all others load nothing
+-- All others load nothing. MOVS, CMPS, STOS, LODS and SCAS have no row here: their unit is one iteration, so that this row
+-- never comes for them.
 loads o f r = []

@@ -12,7 +12,7 @@ use Rattle.i386_decode.specs.declared.form.Operand.{Operand}
 use Rattle.i386_decode.specs.declared.form.Operand.TheVariants.{Memory, Immediate}
 use Rattle.i386_effects.specs.Operands.{part, with_part, address_of, value_of, touches_of, with_operand, writes_to}
 use Rattle.i386_effects.specs.Change.{Change, Done}
-use Rattle.i386_effects.specs.declared.lists.Touch.{Touch}
+use Rattle.i386_effects.specs.declared.accesses.Touch.{Touch}
 use Rattle.i386_execute.specs.Results.{first, second, assigned, with_general}
 
 -- MOV

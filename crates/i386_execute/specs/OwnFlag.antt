@@ -7,15 +7,15 @@ use Rattle.cpu_state.specs.declared.registers.Privileged.{Privileged}
 use Rattle.cpu_state.specs.declared.registers.Privileged.TheVariants as kind
 use Rattle.cpu_state.specs.declared.registers.Registers.{Registers}
 use Rattle.cpu_state.specs.declared.width.Width.TheVariants.{W32}
-use Rattle.i386_effects.specs.Effect.{effect_of}
+use Rattle.i386_effects.specs.Effect.{Effect, effect_of}
 use Rattle.i386_effects.specs.Change.{Change}
 use Rattle.i386_effects.specs.Change as change
-use Rattle.i386_effects.specs.declared.lists.Touch.{Touch}
+use Rattle.i386_effects.specs.declared.accesses.Touch.{Touch}
 use Rattle.i386_execute.specs.Results.{flagged}
 use Rattle.i386_execute.specs.Stack.{below, above, top_touches}
-use Rattle.i386_execute.specs.Unit.{Effect, moved_on, unit_of}
-use Rattle.i386_execute.specs.declared.unit.Stepped.{Stepped}
-use Rattle.i386_execute.specs.declared.unit.Stepped.TheVariants.{Next, Trap, Interrupt, Privileged as PrivilegedUse, Outside, Port}
+use Rattle.i386_execute.specs.Unit.{moved_on}
+use Rattle.i386_effects.specs.declared.stepped.Stepped.{Stepped}
+use Rattle.i386_effects.specs.declared.stepped.Stepped.TheVariants.{Next, Trap, Interrupt, Privileged as PrivilegedUse, Outside, Port}
 
 -- those that are performed so
 abbrev pub is_on_flag : Privileged → Bool
@@ -56,7 +56,7 @@ flag_change kind.Hlt n r ws = change.Privileged kind.Hlt n
 
 -- what it comes to
 unfoldable pub flag_unit : {D : Type 0} → Ports D → Privileged → ℕ → Registers → State D → Effect D
-flag_unit ports k n regs st = unit_of (effect_of ports (flag_loads k (moved_on n regs)) (flag_change k n (moved_on n regs)) regs st)
+flag_unit ports k n regs st = effect_of ports (flag_loads k (moved_on n regs)) (flag_change k n (moved_on n regs)) regs st
 
 -- performed, or an access outside
 abbrev pub IsNextOrOutside : Stepped → Type 0

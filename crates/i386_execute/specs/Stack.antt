@@ -1,5 +1,6 @@
 -- The stack (Intel 80386 manual, sections 3.1.2, 3.5.1 and 3.7).
-use Rattle.std.specs.Prelude.{ℕ, ◌+◌, ◌-◌, ◌%◌, ◌^◌, List, [], ◌∷◌, slice_index, slice_set}
+use Rattle.std.specs.Prelude.{ℕ, ◌+◌, ◌-◌, ◌%◌, ◌^◌, List, [], ◌∷◌, Result, Ok, slice_index, slice_set}
+use Rattle.memory_model.specs.Side.{Side}
 use Rattle.cpu_state.specs.Registers.{esp, ebp, with_esp}
 use Rattle.cpu_state.specs.Width.{size}
 use Rattle.cpu_state.specs.declared.registers.Registers.{Registers}
@@ -8,9 +9,9 @@ use Rattle.cpu_state.specs.declared.width.Width.TheVariants.{W16, W32}
 use Rattle.i386_decode.specs.declared.form.Form.{Form}
 use Rattle.i386_decode.specs.declared.form.Operand.{Operand}
 use Rattle.i386_decode.specs.declared.form.Operand.TheVariants.{Immediate}
-use Rattle.i386_effects.specs.Operands.{value_of, with_operand, writes_to}
+use Rattle.i386_effects.specs.Operands.{value_of, read_of, with_operand, writes_to}
 use Rattle.i386_effects.specs.Change.{Change, Done, eight_pushed}
-use Rattle.i386_effects.specs.declared.lists.Touch.{Touch}
+use Rattle.i386_effects.specs.declared.accesses.Touch.{Touch}
 use Rattle.i386_execute.specs.Results.{first, with_general}
 
 -- ESP moved down by n bytes, or up, modulo 2^32
@@ -66,6 +67,11 @@ left r ws = with_general r (slice_set (with_esp ((ebp r + 4) % 2 ^ 32) r).genera
 abbrev pub target_of : Operand → Form → Registers → List ℕ → ℕ
 target_of (Immediate x) f r ws = (r.eip + x) % 2 ^ 32
 target_of _ f r ws = first f r ws
+
+-- the same target, read where it stands, or the address where the operand that names it lies outside
+abbrev pub target_read : Side → ℕ → Width → Operand → List ℕ → Result ℕ ℕ
+target_read side eip w (Immediate x) g = Ok ((eip + x) % 2 ^ 32)
+target_read side eip w o g = read_of side w o g
 
 -- CALL pushes the address behind it
 unfoldable pub called : Form → Registers → List ℕ → Change

@@ -10,26 +10,16 @@ use Rattle.i386_decode.specs.WellFormed.{is_string}
 use Rattle.i386_decode.specs.declared.form.Decoded.{Decoded}
 use Rattle.i386_decode.specs.declared.form.Decoded.TheVariants.{Form as Spelled, Undefined, Short}
 use Rattle.i386_decode.specs.declared.form.Form.{Form}
-use Rattle.i386_effects.specs.Effect.{Effect as FormEffect, effect_of}
-use Rattle.i386_effects.specs.declared.change.Outcome.{Outcome}
-use Rattle.i386_effects.specs.declared.change.Outcome.TheVariants as outcome
+use Rattle.i386_effects.specs.Change.{Change}
+use Rattle.i386_effects.specs.Effect.{Effect, changed, effect_of, unchanged}
+use Rattle.i386_effects.specs.declared.accesses.Touch.{Touch}
+use Rattle.i386_effects.specs.declared.stepped.Stepped.{Stepped}
+use Rattle.i386_effects.specs.declared.stepped.Stepped.TheVariants.{Next, Trap, Outside}
 use Rattle.i386_strings.specs.Iteration.{IterationEffect, iteration}
 use Rattle.i386_strings.specs.declared.iteration.Iteration.{Iteration}
 use Rattle.i386_strings.specs.declared.iteration.Iteration.TheVariants.{More, Finished, Outside as OutsideAccess}
 use Rattle.i386_execute.specs.Changes.{change}
 use Rattle.i386_execute.specs.Loads.{loads}
-use Rattle.i386_execute.specs.declared.unit.Stepped.{Stepped}
-use Rattle.i386_execute.specs.declared.unit.Stepped.TheVariants.{Next, Trap, Interrupt, Privileged, Outside, Port}
-
--- what a unit came to, with the registers and what the bus reaches after it
-pub record Effect (D : Type 0) : Type 0 where
-  pub stepped : Stepped
-  pub registers : Registers
-  pub bus : State D
-
--- an outcome that changes nothing
-abbrev pub unchanged : {D : Type 0} → Stepped → Registers → State D → Effect D
-unchanged stepped regs st = record { stepped = stepped; registers = regs; bus = st }
 
 -- the address so many bytes on
 abbrev pub onward : ℕ → ℕ → ℕ
@@ -42,20 +32,17 @@ abbrev pub moved_on : ℕ → Registers → Registers
 moved_on n regs = record regs { eip = onward regs.eip n }
 
 -- its effect: its loads, and the change that their words give
-unfoldable pub performed : {D : Type 0} → Ports D → Form → ℕ → Registers → State D → FormEffect D
+unfoldable pub performed : {D : Type 0} → Ports D → Form → ℕ → Registers → State D → Effect D
 performed ports form n regs st =
     effect_of ports (loads form.op form (moved_on n regs)) (change form.op form n (moved_on n regs)) regs st
 
-abbrev pub stepped_by : Outcome → Stepped
-stepped_by outcome.Performed = Next
-stepped_by (outcome.Trap vector) = Trap vector
-stepped_by (outcome.Interrupt vector) = Interrupt vector
-stepped_by (outcome.Privileged kind n) = Privileged kind n
-stepped_by (outcome.Outside kind at) = Outside kind at
-stepped_by (outcome.Port port) = Port port
+-- the effect of one row of the tables, for an instruction of n bytes: its loads and its change are of the registers behind it
+abbrev pub row : {D : Type 0} → Ports D → (Registers → List Touch) → (Registers → List ℕ → Change) → ℕ → Registers → State D → Effect D
+row ports touches change_by n regs st = effect_of ports (touches (moved_on n regs)) (change_by (moved_on n regs)) regs st
 
-abbrev pub unit_of : {D : Type 0} → FormEffect D → Effect D
-unit_of e = record { stepped = stepped_by e.outcome; registers = e.registers; bus = e.bus }
+-- and of one that loads nothing
+abbrev pub plain_row : {D : Type 0} → Ports D → (Registers → Change) → ℕ → Registers → State D → Effect D
+plain_row ports change_by n regs st = changed ports regs st (change_by (moved_on n regs))
 
 -- ---- a string instruction
 
@@ -79,7 +66,7 @@ string_unit n e = record { stepped = stepped_on e.iteration; registers = registe
 -- the first that lies outside
 abbrev pub unit_by : {D : Type 0} → ℕ → Ports D → Registers → State D → Decoded → Effect D
 unit_by fetched ports regs st (Spelled form n) =
-    if is_string form.op then string_unit n (iteration form regs st) else unit_of (performed ports form n regs st)
+    if is_string form.op then string_unit n (iteration form regs st) else performed ports form n regs st
 unit_by fetched ports regs st Undefined = unchanged (Trap 6) regs st
 unit_by fetched ports regs st Short = unchanged (Outside Fetch (onward regs.eip fetched)) regs st
 
@@ -87,6 +74,8 @@ unit_by fetched ports regs st Short = unchanged (Outside Fetch (onward regs.eip 
 abbrev pub fetched_at : ℕ → Side → List ℕ
 fetched_at eip side = bytes_from side eip 15
 
+-- What bytes spell is computed here. That it is what the relation of spellings says, a form, its length, Short or Undefined
+-- exactly where each is due, is the law `decided` of the crate that decodes.
 unfoldable pub unit : {D : Type 0} → Ports D → Registers → State D → Effect D
 unit ports regs st = unit_by (length (fetched_at regs.eip st.side)) ports regs st (decode_of (fetched_at regs.eip st.side))
 

@@ -1,14 +1,17 @@
 // Bit tests and bit scans.
-ghost use Rattle.std.specs.Prelude.{◌≡◌, ◌<◌, ◌^◌, ◌+◌, ◌%◌, [], Option};
+ghost use Rattle.std.specs.Prelude.{◌≡◌, ◌≤◌, ◌<◌, ◌^◌, ◌+◌, ◌%◌, ℕ, Option, Ok};
 ghost use Rattle.cpu_state.specs.Width.{modulus};
-ghost use Rattle.i386_effects.specs.Change.{stores_of, whole};
-ghost use Rattle.i386_execute.specs.Bits.{bytes_away, tested_at, write_at, tested_touches, bit_tested, tested, bit_changed, scanned};
+ghost use Rattle.i386_decode.specs.WellFormed.{memory_count};
+ghost use Rattle.i386_effects.specs.Effect.{came_to};
+ghost use Rattle.i386_execute.specs.Bits.{bytes_away, tested_at, tested_read, tested_touches, tested, bit_changed, scanned};
+ghost use Rattle.i386_execute.specs.Loads.{second_touches};
+ghost use Rattle.i386_execute.specs.Unit.{row};
 
-use crate::results::{computed, first, flagged, second};
-use cpu_state::{Eflags, Registers, Width};
+use crate::results::{made, onward};
+use cpu_state::{Access, Bus, Registers, Width};
 use i386_alu::{bit, scan};
 use i386_decode::{Form, Operand};
-use i386_effects::{Ending, Stores, Touch, Touches, Write, address, part, set, value};
+use i386_effects::{Stepped, address, finish, part, read, set, value};
 
 // How many bytes away the operand stands that holds a bit, modulo 2^32.
 fn bytes_away(width: Width, number: u32) -> u64
@@ -40,69 +43,99 @@ fn tested_at(width: Width, operand: &Operand, number: &Operand, general: &[u32; 
     }
 }
 
-// The load of the tested operand, if it stands in memory.
-#[tactic(auto, unfolding(crate::specs::Bits::tested_touches))]
-pub(crate) fn tested_touches(form: &Form, regs: &Registers, touches: &mut Touches)
-    requires { touches.old ≡ [] }
-    ensures { touches.new ≡ tested_touches form.now regs.now }
+// The operand of which a bit is tested, or the address where it lies outside.
+fn read_tested<B: Bus>(
+    form: &Form,
+    place: Option<u32>,
+    general: &[u32; 8],
+    bus: &B,
+) -> Result<u32, u32>
+    ensures value { result ≡ tested_read (B.state bus.now).side form.now.width form.now.first place general.now }
+    ensures fits { (a : ℕ) → result ≡ Ok a → a < modulus form.now.width }
 {
-    if let Some(at) = tested_at(form.width, &form.first, &form.second, &regs.general) {
-        touches.push(Touch {
-            at,
-            width: form.width,
-        });
+    match place {
+        Some(at) => match bus.load(at, form.width) {
+            Some(word) => Ok(value(form.width, &form.first, general, word)),
+            None => Err(at),
+        },
+        None => Ok(value(form.width, &form.first, general, 0)),
     }
-}
-
-// What is made of the operand, and the flags after it.
-fn bit_tested(form: &Form, regs: &Registers, words: &[u32]) -> (u32, Eflags)
-    ensures value { result.0 ≡ (bit_tested form.now regs.now words.now).value }
-    ensures flags { result.1 ≡ (bit_tested form.now regs.now words.now).flags }
-{
-    let a = first(form, regs, words);
-    let number = value(form.width, &form.second, &regs.general, 0);
-    let place = (number % form.width.bits()) as u8;
-    bit(form.op, form.width, a, place, regs.eflags)
 }
 
 // BT.
-#[tactic(auto, unfolding(crate::specs::Bits::tested))]
-pub(crate) fn tested(form: &Form, regs: &mut Registers, words: &[u32]) -> Ending
-    ensures { whole result regs.new ≡ tested form.now regs.old words.now }
+#[tactic(auto, unfolding(crate::specs::Bits::tested, crate::specs::Bits::tested_touches))]
+pub(crate) fn test_bit<B: Bus>(
+    form: &Form,
+    length: u8,
+    regs: &mut Registers,
+    bus: &mut B,
+) -> Stepped
+    ensures effect { came_to result regs.new (B.state bus.new) ≡ row B.ports (tested_touches form.now) (tested form.now) length regs.old (B.state bus.old) }
+    ensures lenders { B.lenders bus.new ≡ B.lenders bus.old }
 {
-    let (_, eflags) = bit_tested(form, regs, words);
-    flagged(regs, eflags)
-}
-
-// The store of a value at a place, if there is one.
-fn write_at(width: Width, value: u32, place: Option<u32>) -> Stores
-    ensures { stores_of result ≡ write_at width value place }
-{
-    match place {
-        Some(at) => Stores::One(Write { at, width, value }),
-        None => Stores::Nothing,
-    }
+    let place = tested_at(form.width, &form.first, &form.second, &regs.general);
+    let a = match read_tested(form, place, &regs.general, bus) {
+        Ok(a) => a,
+        Err(at) => return Stepped::Outside(Access::Load, at),
+    };
+    let number = value(form.width, &form.second, &regs.general, 0);
+    let number = (number % form.width.bits()) as u8;
+    let (_, eflags) = bit(form.op, form.width, a, number, regs.eflags);
+    regs.eflags = eflags;
+    regs.eip = onward(regs.eip, u32::from(length));
+    Stepped::Next
 }
 
 // BTS, BTR and BTC.
-#[tactic(auto, unfolding(crate::specs::Bits::bit_changed))]
-pub(crate) fn bit_changed(form: &Form, regs: &mut Registers, words: &[u32]) -> Ending
-    ensures { whole result regs.new ≡ bit_changed form.now regs.old words.now }
+#[tactic(auto, unfolding(crate::specs::Bits::bit_changed, crate::specs::Bits::tested_touches))]
+pub(crate) fn change_bit<B: Bus>(
+    form: &Form,
+    length: u8,
+    regs: &mut Registers,
+    bus: &mut B,
+) -> Stepped
+    ensures effect { came_to result regs.new (B.state bus.new) ≡ row B.ports (tested_touches form.now) (bit_changed form.now) length regs.old (B.state bus.old) }
+    ensures lenders { B.lenders bus.new ≡ B.lenders bus.old }
 {
-    let (value, eflags) = bit_tested(form, regs, words);
     let place = tested_at(form.width, &form.first, &form.second, &regs.general);
-    set(form.width, &form.first, value, &mut regs.general);
+    let a = match read_tested(form, place, &regs.general, bus) {
+        Ok(a) => a,
+        Err(at) => return Stepped::Outside(Access::Load, at),
+    };
+    let number = value(form.width, &form.second, &regs.general, 0);
+    let number = (number % form.width.bits()) as u8;
+    let (value, eflags) = bit(form.op, form.width, a, number, regs.eflags);
+    match place {
+        Some(at) => {
+            if !bus.store(at, form.width, value) {
+                return Stepped::Outside(Access::Store, at);
+            }
+        }
+        None => set(form.width, &form.first, value, &mut regs.general),
+    }
     regs.eflags = eflags;
-    Ending::Done(write_at(form.width, value, place))
+    regs.eip = onward(regs.eip, u32::from(length));
+    Stepped::Next
 }
 
 // BSF and BSR.
-#[tactic(auto, unfolding(crate::specs::Bits::scanned))]
-pub(crate) fn scanned(form: &Form, regs: &mut Registers, words: &[u32]) -> Ending
-    ensures { whole result regs.new ≡ scanned form.now regs.old words.now }
+#[tactic(auto, unfolding(crate::specs::Bits::scanned, crate::specs::Loads::second_touches))]
+pub(crate) fn scan_bits<B: Bus>(
+    form: &Form,
+    length: u8,
+    regs: &mut Registers,
+    bus: &mut B,
+) -> Stepped
+    requires { memory_count form.now.first + memory_count form.now.second ≤ 1 }
+    ensures effect { came_to result regs.new (B.state bus.new) ≡ row B.ports (second_touches form.now) (scanned form.now) length regs.old (B.state bus.old) }
+    ensures lenders { B.lenders bus.new ≡ B.lenders bus.old }
 {
-    let old = first(form, regs, words);
-    let source = second(form, regs, words);
+    let source = match read(form.width, &form.second, &regs.general, bus) {
+        Ok(source) => source,
+        Err(at) => return Stepped::Outside(Access::Load, at),
+    };
+    let old = value(form.width, &form.first, &regs.general, 0);
     let (value, eflags) = scan(form.op, form.width, source, old, regs.eflags);
-    computed(form, regs, value, eflags)
+    let eip = onward(regs.eip, u32::from(length));
+    made(finish(form.width, &form.first, value, eflags, eip, regs, bus))
 }

@@ -1,12 +1,13 @@
 // Instructions on flags.
 ghost use Rattle.std.specs.Prelude.{◌≡◌};
-ghost use Rattle.i386_effects.specs.Change.{whole};
+ghost use Rattle.i386_effects.specs.Effect.{came_to};
 ghost use Rattle.i386_execute.specs.Flags.{flags_by, flag_changed, taken_from, taken, given};
+ghost use Rattle.i386_execute.specs.Unit.{plain_row};
 
-use crate::results::flagged;
-use cpu_state::{Eflags, Op, Registers, Width};
+use crate::results::onward;
+use cpu_state::{Bus, Eflags, Op, Registers, Width};
 use i386_decode::Form;
-use i386_effects::{AH, Ending, Stores, part, set_part};
+use i386_effects::{AH, Stepped, part, set_part};
 
 // The flags after CLC, STC, CMC, CLD or STD.
 #[tactic(auto, unfolding(crate::specs::Flags::flags_by))]
@@ -40,11 +41,18 @@ fn flags_by(op: Op, eflags: Eflags) -> Eflags
 
 // CLC, STC, CMC, CLD and STD.
 #[tactic(auto, unfolding(crate::specs::Flags::flag_changed))]
-pub(crate) fn flag_changed(form: &Form, regs: &mut Registers) -> Ending
-    ensures { whole result regs.new ≡ flag_changed form.now regs.old }
+pub(crate) fn change_flag<B: Bus>(
+    form: &Form,
+    length: u8,
+    regs: &mut Registers,
+    bus: &mut B,
+) -> Stepped
+    ensures effect { came_to result regs.new (B.state bus.new) ≡ plain_row B.ports (flag_changed form.now) length regs.old (B.state bus.old) }
+    ensures lenders { B.lenders bus.new ≡ B.lenders bus.old }
 {
-    let eflags = flags_by(form.op, regs.eflags);
-    flagged(regs, eflags)
+    regs.eflags = flags_by(form.op, regs.eflags);
+    regs.eip = onward(regs.eip, u32::from(length));
+    Stepped::Next
 }
 
 // SF, ZF, AF, PF and CF of a byte.
@@ -64,20 +72,24 @@ fn taken_from(byte: u32, eflags: Eflags) -> Eflags
 
 // SAHF.
 #[tactic(auto, unfolding(crate::specs::Flags::taken))]
-pub(crate) fn taken(regs: &mut Registers) -> Ending
-    ensures { whole result regs.new ≡ taken regs.old }
+pub(crate) fn take_flags<B: Bus>(length: u8, regs: &mut Registers, bus: &mut B) -> Stepped
+    ensures effect { came_to result regs.new (B.state bus.new) ≡ plain_row B.ports taken length regs.old (B.state bus.old) }
+    ensures lenders { B.lenders bus.new ≡ B.lenders bus.old }
 {
     let byte = part(Width::W8, AH, &regs.general);
-    let eflags = taken_from(byte, regs.eflags);
-    flagged(regs, eflags)
+    regs.eflags = taken_from(byte, regs.eflags);
+    regs.eip = onward(regs.eip, u32::from(length));
+    Stepped::Next
 }
 
 // LAHF.
 #[tactic(auto, unfolding(crate::specs::Flags::given))]
-pub(crate) fn given(regs: &mut Registers) -> Ending
-    ensures { whole result regs.new ≡ given regs.old }
+pub(crate) fn give_flags<B: Bus>(length: u8, regs: &mut Registers, bus: &mut B) -> Stepped
+    ensures effect { came_to result regs.new (B.state bus.new) ≡ plain_row B.ports given length regs.old (B.state bus.old) }
+    ensures lenders { B.lenders bus.new ≡ B.lenders bus.old }
 {
     let byte = regs.eflags.word() % 0x100;
     set_part(Width::W8, AH, byte, &mut regs.general);
-    Ending::Done(Stores::Nothing)
+    regs.eip = onward(regs.eip, u32::from(length));
+    Stepped::Next
 }

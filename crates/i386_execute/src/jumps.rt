@@ -1,32 +1,36 @@
 // Conditional jumps and loops.
-ghost use Rattle.std.specs.Prelude.{◌≡◌};
-ghost use Rattle.i386_effects.specs.Change.{whole};
-ghost use Rattle.i386_execute.specs.Jumps.{jumped_where, branched, goes_on, looped, jumped_at_zero};
+ghost use Rattle.std.specs.Prelude.{◌≡◌, ◌+◌, ◌%◌, ◌^◌, if◌then◌else◌};
+ghost use Rattle.i386_effects.specs.Effect.{came_to};
+ghost use Rattle.i386_effects.specs.Operands.{value_of};
+ghost use Rattle.i386_execute.specs.Jumps.{branched, goes_on, looped, jumped_at_zero};
+ghost use Rattle.i386_execute.specs.Unit.{onward, plain_row};
 
-use crate::results::code;
-use cpu_state::{ECX, Op, Registers, Width};
+use crate::results::{code, onward};
+use cpu_state::{Bus, ECX, Op, Registers, Width};
 use i386_alu::condition;
 use i386_decode::Form;
-use i386_effects::{Ending, Stores, value};
+use i386_effects::{Stepped, value};
 
-// A jump where a test holds.
-fn jumped_where(test: bool, form: &Form, regs: &mut Registers) -> Ending
-    ensures { whole result regs.new ≡ jumped_where test form.now regs.old regs.old.general }
+// Moves EIP behind an instruction of so many bytes, and by its displacement where a test holds.
+fn jump_where(test: bool, form: &Form, length: u8, regs: &mut Registers)
+    ensures { regs.new ≡ record regs.old { eip = if test then (onward regs.old.eip length + value_of Width.W32 form.now.first regs.old.general 0) % 2 ^ 32 else onward regs.old.eip length } }
 {
+    regs.eip = onward(regs.eip, u32::from(length));
     if test {
         let displacement = value(Width::W32, &form.first, &regs.general, 0);
         regs.eip = regs.eip.wrapping_add(displacement);
     }
-    Ending::Done(Stores::Nothing)
 }
 
 // Jcc.
 #[tactic(auto, unfolding(crate::specs::Jumps::branched))]
-pub(crate) fn branched(form: &Form, regs: &mut Registers) -> Ending
-    ensures { whole result regs.new ≡ branched form.now regs.old }
+pub(crate) fn branch<B: Bus>(form: &Form, length: u8, regs: &mut Registers, bus: &mut B) -> Stepped
+    ensures effect { came_to result regs.new (B.state bus.new) ≡ plain_row B.ports (branched form.now) length regs.old (B.state bus.old) }
+    ensures lenders { B.lenders bus.new ≡ B.lenders bus.old }
 {
     let holds = condition(code(&form.second, regs), regs.eflags);
-    jumped_where(holds, form, regs)
+    jump_where(holds, form, length, regs);
+    Stepped::Next
 }
 
 // Whether ZF lets a loop go on.
@@ -42,21 +46,34 @@ fn goes_on(op: Op, zero: bool) -> bool
 
 // LOOP, LOOPE and LOOPNE.
 #[tactic(auto, unfolding(crate::specs::Jumps::looped))]
-pub(crate) fn looped(form: &Form, regs: &mut Registers) -> Ending
-    ensures { whole result regs.new ≡ looped form.now regs.old }
+pub(crate) fn loop_back<B: Bus>(
+    form: &Form,
+    length: u8,
+    regs: &mut Registers,
+    bus: &mut B,
+) -> Stepped
+    ensures effect { came_to result regs.new (B.state bus.new) ≡ plain_row B.ports (looped form.now) length regs.old (B.state bus.old) }
+    ensures lenders { B.lenders bus.new ≡ B.lenders bus.old }
 {
     let count = regs.general[ECX].wrapping_sub(1);
     let test = count != 0 && goes_on(form.op, regs.eflags.zero);
-    let ending = jumped_where(test, form, regs);
+    jump_where(test, form, length, regs);
     regs.general[ECX] = count;
-    ending
+    Stepped::Next
 }
 
 // JECXZ.
 #[tactic(auto, unfolding(crate::specs::Jumps::jumped_at_zero))]
-pub(crate) fn jumped_at_zero(form: &Form, regs: &mut Registers) -> Ending
-    ensures { whole result regs.new ≡ jumped_at_zero form.now regs.old }
+pub(crate) fn jump_at_zero<B: Bus>(
+    form: &Form,
+    length: u8,
+    regs: &mut Registers,
+    bus: &mut B,
+) -> Stepped
+    ensures effect { came_to result regs.new (B.state bus.new) ≡ plain_row B.ports (jumped_at_zero form.now) length regs.old (B.state bus.old) }
+    ensures lenders { B.lenders bus.new ≡ B.lenders bus.old }
 {
     let test = regs.general[ECX] == 0;
-    jumped_where(test, form, regs)
+    jump_where(test, form, length, regs);
+    Stepped::Next
 }

@@ -1,42 +1,63 @@
 // Data movement.
-ghost use Rattle.std.specs.Prelude.{◌≡◌, ◌<◌, []};
+ghost use Rattle.std.specs.Prelude.{◌≡◌, ◌≤◌, ◌<◌, ◌+◌};
 ghost use Rattle.cpu_state.specs.Width.{modulus};
-ghost use Rattle.i386_effects.specs.Change.{whole};
-ghost use Rattle.i386_execute.specs.Moves.{copied, exchanged, extended, width_named, extended_touches, narrow, zero_extended, sign_extended, half, widened, sign_spread, place_of, addressed, table_touches, translated, set_where};
+ghost use Rattle.i386_decode.specs.WellFormed.{memory_count};
+ghost use Rattle.i386_effects.specs.Effect.{came_to};
+ghost use Rattle.i386_execute.specs.Loads.{first_touches, second_touches};
+ghost use Rattle.i386_execute.specs.Moves.{copied, exchanged, extended, width_named, extended_touches, zero_extended, sign_extended, half, widened, sign_spread, place_of, addressed, table_touches, translated, set_where};
+ghost use Rattle.i386_execute.specs.Unit.{row, plain_row};
 
-use crate::results::{assigned, code, first, second};
-use cpu_state::{EBX, Registers, Width};
+use crate::results::{code, made, onward};
+use cpu_state::{Access, Bus, EBX, Registers, Width};
 use i386_alu::condition;
 use i386_decode::{Form, Operand};
-use i386_effects::{
-    ACCUMULATOR, DATA, Ending, Stores, Touch, Touches, address, part, set, set_part, store, touch,
-    value, word,
-};
+use i386_effects::{ACCUMULATOR, DATA, Stepped, address, finish, part, read, set, set_part, value};
 
 // MOV.
-#[tactic(auto, unfolding(crate::specs::Moves::copied))]
-pub(crate) fn copied(form: &Form, regs: &mut Registers, words: &[u32]) -> Ending
-    ensures { whole result regs.new ≡ copied form.now regs.old words.now }
+#[tactic(auto, unfolding(crate::specs::Moves::copied, crate::specs::Loads::second_touches))]
+pub(crate) fn copy<B: Bus>(form: &Form, length: u8, regs: &mut Registers, bus: &mut B) -> Stepped
+    ensures effect { came_to result regs.new (B.state bus.new) ≡ row B.ports (second_touches form.now) (copied form.now) length regs.old (B.state bus.old) }
+    ensures lenders { B.lenders bus.new ≡ B.lenders bus.old }
 {
-    let value = second(form, regs, words);
-    assigned(form, regs, value)
+    let a = match read(form.width, &form.second, &regs.general, bus) {
+        Ok(a) => a,
+        Err(at) => return Stepped::Outside(Access::Load, at),
+    };
+    let eip = onward(regs.eip, u32::from(length));
+    let eflags = regs.eflags;
+    made(finish(form.width, &form.first, a, eflags, eip, regs, bus))
 }
 
 // XCHG.
-#[tactic(auto, unfolding(crate::specs::Moves::exchanged))]
-pub(crate) fn exchanged(form: &Form, regs: &mut Registers, words: &[u32]) -> Ending
-    ensures { whole result regs.new ≡ exchanged form.now regs.old words.now }
+#[tactic(auto, unfolding(crate::specs::Moves::exchanged, crate::specs::Loads::first_touches))]
+pub(crate) fn exchange<B: Bus>(
+    form: &Form,
+    length: u8,
+    regs: &mut Registers,
+    bus: &mut B,
+) -> Stepped
+    requires { memory_count form.now.first + memory_count form.now.second ≤ 1 }
+    ensures effect { came_to result regs.new (B.state bus.new) ≡ row B.ports (first_touches form.now) (exchanged form.now) length regs.old (B.state bus.old) }
+    ensures lenders { B.lenders bus.new ≡ B.lenders bus.old }
 {
-    let a = first(form, regs, words);
-    let b = second(form, regs, words);
-    let stores = store(form.width, &form.first, b, &regs.general);
-    set(form.width, &form.first, b, &mut regs.general);
-    set(form.width, &form.second, a, &mut regs.general);
-    Ending::Done(stores)
+    let a = match read(form.width, &form.first, &regs.general, bus) {
+        Ok(a) => a,
+        Err(at) => return Stepped::Outside(Access::Load, at),
+    };
+    let b = value(form.width, &form.second, &regs.general, 0);
+    let eip = onward(regs.eip, u32::from(length));
+    let eflags = regs.eflags;
+    match finish(form.width, &form.first, b, eflags, eip, regs, bus) {
+        None => {
+            set(form.width, &form.second, a, &mut regs.general);
+            Stepped::Next
+        }
+        Some(at) => Stepped::Outside(Access::Store, at),
+    }
 }
 
 // An operand with its sign, as a doubleword.
-pub(crate) fn extended(width: Width, a: u32) -> u32
+fn extended(width: Width, a: u32) -> u32
     requires { a < modulus width }
     ensures { result ≡ extended width a }
 {
@@ -48,7 +69,7 @@ pub(crate) fn extended(width: Width, a: u32) -> u32
 }
 
 // The width that a number of bits names.
-pub(crate) fn width_named(operand: &Operand) -> Width
+fn width_named(operand: &Operand) -> Width
     ensures { result ≡ width_named operand.now }
 {
     match operand {
@@ -57,50 +78,47 @@ pub(crate) fn width_named(operand: &Operand) -> Width
     }
 }
 
-// The load of MOVZX and MOVSX.
-#[tactic(auto, unfolding(crate::specs::Moves::extended_touches))]
-pub(crate) fn extended_touches(form: &Form, regs: &Registers, touches: &mut Touches)
-    requires { touches.old ≡ [] }
-    ensures { touches.new ≡ extended_touches form.now regs.now }
-{
-    touch(
-        width_named(&form.third),
-        &form.second,
-        &regs.general,
-        touches,
-    );
-}
-
-// The value of the second operand at the width that the third names.
-fn narrow(form: &Form, regs: &Registers, words: &[u32]) -> u32
-    ensures value { result ≡ narrow form.now regs.now words.now }
-    ensures fits { result < modulus (width_named form.now.third) }
-{
-    value(
-        width_named(&form.third),
-        &form.second,
-        &regs.general,
-        word(words, 0),
-    )
-}
-
 // MOVZX.
-#[tactic(auto, unfolding(crate::specs::Moves::zero_extended))]
-pub(crate) fn zero_extended(form: &Form, regs: &mut Registers, words: &[u32]) -> Ending
-    ensures { whole result regs.new ≡ zero_extended form.now regs.old words.now }
+#[tactic(auto, unfolding(crate::specs::Moves::zero_extended, crate::specs::Moves::extended_touches))]
+pub(crate) fn extend_by_zero<B: Bus>(
+    form: &Form,
+    length: u8,
+    regs: &mut Registers,
+    bus: &mut B,
+) -> Stepped
+    ensures effect { came_to result regs.new (B.state bus.new) ≡ row B.ports (extended_touches form.now) (zero_extended form.now) length regs.old (B.state bus.old) }
+    ensures lenders { B.lenders bus.new ≡ B.lenders bus.old }
 {
-    let value = narrow(form, regs, words);
-    assigned(form, regs, value)
+    let narrow = width_named(&form.third);
+    let a = match read(narrow, &form.second, &regs.general, bus) {
+        Ok(a) => a,
+        Err(at) => return Stepped::Outside(Access::Load, at),
+    };
+    let eip = onward(regs.eip, u32::from(length));
+    let eflags = regs.eflags;
+    made(finish(form.width, &form.first, a, eflags, eip, regs, bus))
 }
 
 // MOVSX.
-#[tactic(auto, unfolding(crate::specs::Moves::sign_extended))]
-pub(crate) fn sign_extended(form: &Form, regs: &mut Registers, words: &[u32]) -> Ending
-    ensures { whole result regs.new ≡ sign_extended form.now regs.old words.now }
+#[tactic(auto, unfolding(crate::specs::Moves::sign_extended, crate::specs::Moves::extended_touches))]
+pub(crate) fn extend_by_sign<B: Bus>(
+    form: &Form,
+    length: u8,
+    regs: &mut Registers,
+    bus: &mut B,
+) -> Stepped
+    ensures effect { came_to result regs.new (B.state bus.new) ≡ row B.ports (extended_touches form.now) (sign_extended form.now) length regs.old (B.state bus.old) }
+    ensures lenders { B.lenders bus.new ≡ B.lenders bus.old }
 {
-    let a = narrow(form, regs, words);
-    let value = extended(width_named(&form.third), a);
-    assigned(form, regs, value)
+    let narrow = width_named(&form.third);
+    let a = match read(narrow, &form.second, &regs.general, bus) {
+        Ok(a) => a,
+        Err(at) => return Stepped::Outside(Access::Load, at),
+    };
+    let value = extended(narrow, a);
+    let eip = onward(regs.eip, u32::from(length));
+    let eflags = regs.eflags;
+    made(finish(form.width, &form.first, value, eflags, eip, regs, bus))
 }
 
 // Half of a width.
@@ -116,8 +134,9 @@ fn half(width: Width) -> Width
 
 // CBW and CWDE.
 #[tactic(auto, unfolding(crate::specs::Moves::widened))]
-pub(crate) fn widened(form: &Form, regs: &mut Registers) -> Ending
-    ensures { whole result regs.new ≡ widened form.now regs.old }
+pub(crate) fn widen<B: Bus>(form: &Form, length: u8, regs: &mut Registers, bus: &mut B) -> Stepped
+    ensures effect { came_to result regs.new (B.state bus.new) ≡ plain_row B.ports (widened form.now) length regs.old (B.state bus.old) }
+    ensures lenders { B.lenders bus.new ≡ B.lenders bus.old }
 {
     let half = half(form.width);
     let a = part(half, ACCUMULATOR, &regs.general);
@@ -127,13 +146,20 @@ pub(crate) fn widened(form: &Form, regs: &mut Registers) -> Ending
         extended(half, a),
         &mut regs.general,
     );
-    Ending::Done(Stores::Nothing)
+    regs.eip = onward(regs.eip, u32::from(length));
+    Stepped::Next
 }
 
 // CWD and CDQ.
 #[tactic(auto, unfolding(crate::specs::Moves::sign_spread))]
-pub(crate) fn sign_spread(form: &Form, regs: &mut Registers) -> Ending
-    ensures { whole result regs.new ≡ sign_spread form.now regs.old }
+pub(crate) fn spread_sign<B: Bus>(
+    form: &Form,
+    length: u8,
+    regs: &mut Registers,
+    bus: &mut B,
+) -> Stepped
+    ensures effect { came_to result regs.new (B.state bus.new) ≡ plain_row B.ports (sign_spread form.now) length regs.old (B.state bus.old) }
+    ensures lenders { B.lenders bus.new ≡ B.lenders bus.old }
 {
     let a = part(form.width, ACCUMULATOR, &regs.general);
     let sign = if form.width.top_bit(a) {
@@ -142,11 +168,12 @@ pub(crate) fn sign_spread(form: &Form, regs: &mut Registers) -> Ending
         0
     };
     set_part(form.width, DATA, sign, &mut regs.general);
-    Ending::Done(Stores::Nothing)
+    regs.eip = onward(regs.eip, u32::from(length));
+    Stepped::Next
 }
 
 // The address that an operand names.
-pub(crate) fn place(operand: &Operand, general: &[u32; 8]) -> u32
+fn place(operand: &Operand, general: &[u32; 8]) -> u32
     ensures { result ≡ place_of operand.now general.now }
 {
     match operand {
@@ -157,40 +184,52 @@ pub(crate) fn place(operand: &Operand, general: &[u32; 8]) -> u32
 
 // LEA.
 #[tactic(auto, unfolding(crate::specs::Moves::addressed))]
-pub(crate) fn addressed(form: &Form, regs: &mut Registers) -> Ending
-    ensures { whole result regs.new ≡ addressed form.now regs.old }
+pub(crate) fn load_address<B: Bus>(
+    form: &Form,
+    length: u8,
+    regs: &mut Registers,
+    bus: &mut B,
+) -> Stepped
+    ensures effect { came_to result regs.new (B.state bus.new) ≡ plain_row B.ports (addressed form.now) length regs.old (B.state bus.old) }
+    ensures lenders { B.lenders bus.new ≡ B.lenders bus.old }
 {
     let value = place(&form.second, &regs.general);
-    assigned(form, regs, value)
-}
-
-// The load of XLAT.
-#[tactic(auto, unfolding(crate::specs::Moves::table_touches))]
-pub(crate) fn table_touches(regs: &Registers, touches: &mut Touches)
-    requires { touches.old ≡ [] }
-    ensures { touches.new ≡ table_touches regs.now }
-{
-    let index = part(Width::W8, ACCUMULATOR, &regs.general);
-    touches.push(Touch {
-        at: regs.general[EBX].wrapping_add(index),
-        width: Width::W8,
-    });
+    let eip = onward(regs.eip, u32::from(length));
+    let eflags = regs.eflags;
+    made(finish(form.width, &form.first, value, eflags, eip, regs, bus))
 }
 
 // XLAT.
-#[tactic(auto, unfolding(crate::specs::Moves::translated))]
-pub(crate) fn translated(regs: &mut Registers, words: &[u32]) -> Ending
-    ensures { whole result regs.new ≡ translated regs.old words.now }
+#[tactic(auto, unfolding(crate::specs::Moves::translated, crate::specs::Moves::table_touches))]
+pub(crate) fn translate<B: Bus>(length: u8, regs: &mut Registers, bus: &mut B) -> Stepped
+    ensures effect { came_to result regs.new (B.state bus.new) ≡ row B.ports table_touches translated length regs.old (B.state bus.old) }
+    ensures lenders { B.lenders bus.new ≡ B.lenders bus.old }
 {
-    set_part(Width::W8, ACCUMULATOR, word(words, 0), &mut regs.general);
-    Ending::Done(Stores::Nothing)
+    let index = part(Width::W8, ACCUMULATOR, &regs.general);
+    let at = regs.general[EBX].wrapping_add(index);
+    let byte = match bus.load(at, Width::W8) {
+        Some(byte) => byte,
+        None => return Stepped::Outside(Access::Load, at),
+    };
+    set_part(Width::W8, ACCUMULATOR, byte, &mut regs.general);
+    regs.eip = onward(regs.eip, u32::from(length));
+    Stepped::Next
 }
 
 // SETcc.
 #[tactic(auto, unfolding(crate::specs::Moves::set_where))]
-pub(crate) fn set_where(form: &Form, regs: &mut Registers) -> Ending
-    ensures { whole result regs.new ≡ set_where form.now regs.old }
+pub(crate) fn set_on_condition<B: Bus>(
+    form: &Form,
+    length: u8,
+    regs: &mut Registers,
+    bus: &mut B,
+) -> Stepped
+    ensures effect { came_to result regs.new (B.state bus.new) ≡ plain_row B.ports (set_where form.now) length regs.old (B.state bus.old) }
+    ensures lenders { B.lenders bus.new ≡ B.lenders bus.old }
 {
     let holds = condition(code(&form.second, regs), regs.eflags);
-    assigned(form, regs, if holds { 1 } else { 0 })
+    let value = if holds { 1 } else { 0 };
+    let eip = onward(regs.eip, u32::from(length));
+    let eflags = regs.eflags;
+    made(finish(form.width, &form.first, value, eflags, eip, regs, bus))
 }

@@ -1,17 +1,23 @@
 // Multiplication and division.
-ghost use Rattle.std.specs.Prelude.{◌≡◌};
-ghost use Rattle.i386_effects.specs.Change.{whole};
-ghost use Rattle.i386_execute.specs.Products.{high_half, with_halves, multiplied, signed_multiplied, divided_into, divided};
+ghost use Rattle.std.specs.Prelude.{◌≡◌, ◌≤◌, ◌<◌, ◌+◌, true, false};
+ghost use Rattle.cpu_state.specs.Width.{modulus};
+ghost use Rattle.i386_decode.specs.WellFormed.{memory_count};
+ghost use Rattle.i386_alu.specs.Product.{multiply_of};
+ghost use Rattle.i386_effects.specs.Effect.{came_to, changed};
+ghost use Rattle.i386_effects.specs.Operands.{part};
+ghost use Rattle.i386_execute.specs.Loads.{first_touches, both_touches};
+ghost use Rattle.i386_execute.specs.Products.{high_half, with_halves, doubled, multiplied, times, signed_multiplied, divided};
+ghost use Rattle.i386_execute.specs.Unit.{moved_on, row};
 
-use crate::results::{computed, first, second};
+use crate::results::{made, onward};
 use crate::unit::DIVIDE_ERROR;
-use cpu_state::{Registers, Width};
+use cpu_state::{Access, Bus, Registers, Width};
 use i386_alu::{divide, multiply};
 use i386_decode::{Form, Operand};
-use i386_effects::{ACCUMULATOR, AH, DATA, Ending, Stores, part, set_part, value};
+use i386_effects::{ACCUMULATOR, AH, DATA, Stepped, finish, part, read, set_part, value};
 
 // The register of the high half: AH, DX or EDX.
-pub(crate) fn high_half(width: Width) -> u8
+fn high_half(width: Width) -> u8
     ensures { result ≡ high_half width }
 {
     match width {
@@ -22,64 +28,125 @@ pub(crate) fn high_half(width: Width) -> u8
 }
 
 // Puts both halves in their places.
-pub(crate) fn set_halves(width: Width, low: u32, high: u32, general: &mut [u32; 8])
+fn set_halves(width: Width, low: u32, high: u32, general: &mut [u32; 8])
     ensures { general.new ≡ with_halves width low high general.old }
 {
     set_part(width, ACCUMULATOR, low, general);
     set_part(width, high_half(width), high, general);
 }
 
-// MUL, and IMUL of one operand.
-#[tactic(auto, unfolding(crate::specs::Products::multiplied))]
-pub(crate) fn multiplied(signed: bool, form: &Form, regs: &mut Registers, words: &[u32]) -> Ending
-    ensures { whole result regs.new ≡ multiplied signed form.now regs.old words.now }
+// AL, AX or EAX by a factor: both halves of the product.
+fn multiply_accumulator<B: Bus>(
+    signed: bool,
+    by: u32,
+    form: &Form,
+    length: u8,
+    regs: &mut Registers,
+    bus: &mut B,
+) -> Stepped
+    requires { by < modulus form.now.width }
+    ensures effect { let r = moved_on length regs.old in came_to result regs.new (B.state bus.new) ≡ changed B.ports regs.old (B.state bus.old) (doubled form.now r (multiply_of signed form.now.width (part form.now.width 0 r.general) by r.eflags)) }
+    ensures lenders { B.lenders bus.new ≡ B.lenders bus.old }
 {
     let a = part(form.width, ACCUMULATOR, &regs.general);
-    let b = first(form, regs, words);
-    let (low, high, eflags) = multiply(signed, form.width, a, b, regs.eflags);
+    let (low, high, eflags) = multiply(signed, form.width, a, by, regs.eflags);
     set_halves(form.width, low, high, &mut regs.general);
     regs.eflags = eflags;
-    Ending::Done(Stores::Nothing)
+    regs.eip = onward(regs.eip, u32::from(length));
+    Stepped::Next
 }
 
-// IMUL.
-#[tactic(auto, unfolding(crate::specs::Products::signed_multiplied))]
-pub(crate) fn signed_multiplied(form: &Form, regs: &mut Registers, words: &[u32]) -> Ending
-    ensures { whole result regs.new ≡ signed_multiplied form.now regs.old words.now }
+// A signed product, of which the low half goes into the first operand.
+fn multiply_into_first<B: Bus>(
+    a: u32,
+    b: u32,
+    form: &Form,
+    length: u8,
+    regs: &mut Registers,
+    bus: &mut B,
+) -> Stepped
+    requires a_fits { a < modulus form.now.width }
+    requires b_fits { b < modulus form.now.width }
+    ensures effect { let r = moved_on length regs.old in came_to result regs.new (B.state bus.new) ≡ changed B.ports regs.old (B.state bus.old) (times form.now r (multiply_of true form.now.width a b r.eflags)) }
+    ensures lenders { B.lenders bus.new ≡ B.lenders bus.old }
 {
-    let (a, b) = match (&form.second, &form.third) {
-        (Operand::Absent, _) => return multiplied(true, form, regs, words),
-        (_, Operand::Absent) => (first(form, regs, words), second(form, regs, words)),
-        (_, by) => (
-            second(form, regs, words),
-            value(form.width, by, &regs.general, 0),
-        ),
-    };
     let (low, _, eflags) = multiply(true, form.width, a, b, regs.eflags);
-    computed(form, regs, low, eflags)
+    let eip = onward(regs.eip, u32::from(length));
+    made(finish(form.width, &form.first, low, eflags, eip, regs, bus))
 }
 
-// A quotient and its remainder, or the divide error.
-fn divided_into(quotient: Option<(u32, u32)>, form: &Form, regs: &mut Registers) -> Ending
-    ensures { whole result regs.new ≡ divided_into quotient form.now regs.old }
+// MUL.
+#[tactic(auto, unfolding(crate::specs::Products::multiplied, crate::specs::Loads::first_touches))]
+pub(crate) fn multiply_operand<B: Bus>(
+    form: &Form,
+    length: u8,
+    regs: &mut Registers,
+    bus: &mut B,
+) -> Stepped
+    ensures effect { came_to result regs.new (B.state bus.new) ≡ row B.ports (first_touches form.now) (multiplied false form.now) length regs.old (B.state bus.old) }
+    ensures lenders { B.lenders bus.new ≡ B.lenders bus.old }
 {
-    match quotient {
-        Some((quotient, remainder)) => {
-            set_halves(form.width, quotient, remainder, &mut regs.general);
-            Ending::Done(Stores::Nothing)
+    let a = match read(form.width, &form.first, &regs.general, bus) {
+        Ok(a) => a,
+        Err(at) => return Stepped::Outside(Access::Load, at),
+    };
+    multiply_accumulator(false, a, form, length, regs, bus)
+}
+
+// IMUL of one, two or three operands.
+#[tactic(auto, unfolding(crate::specs::Products::signed_multiplied, crate::specs::Products::multiplied, crate::specs::Loads::both_touches))]
+pub(crate) fn multiply_signed<B: Bus>(
+    form: &Form,
+    length: u8,
+    regs: &mut Registers,
+    bus: &mut B,
+) -> Stepped
+    requires { memory_count form.now.first + memory_count form.now.second ≤ 1 }
+    ensures effect { came_to result regs.new (B.state bus.new) ≡ row B.ports (both_touches form.now) (signed_multiplied form.now) length regs.old (B.state bus.old) }
+    ensures lenders { B.lenders bus.new ≡ B.lenders bus.old }
+{
+    let a = match read(form.width, &form.first, &regs.general, bus) {
+        Ok(a) => a,
+        Err(at) => return Stepped::Outside(Access::Load, at),
+    };
+    let b = match read(form.width, &form.second, &regs.general, bus) {
+        Ok(b) => b,
+        Err(at) => return Stepped::Outside(Access::Load, at),
+    };
+    match (&form.second, &form.third) {
+        (Operand::Absent, _) => multiply_accumulator(true, a, form, length, regs, bus),
+        (_, Operand::Absent) => multiply_into_first(a, b, form, length, regs, bus),
+        (_, by) => {
+            let by = value(form.width, by, &regs.general, 0);
+            multiply_into_first(b, by, form, length, regs, bus)
         }
-        None => Ending::Trap(DIVIDE_ERROR),
     }
 }
 
 // DIV and IDIV.
-#[tactic(auto, unfolding(crate::specs::Products::divided))]
-pub(crate) fn divided(signed: bool, form: &Form, regs: &mut Registers, words: &[u32]) -> Ending
-    ensures { whole result regs.new ≡ divided signed form.now regs.old words.now }
+#[tactic(auto, unfolding(crate::specs::Products::divided, crate::specs::Loads::first_touches))]
+pub(crate) fn divide_accumulator<B: Bus>(
+    signed: bool,
+    form: &Form,
+    length: u8,
+    regs: &mut Registers,
+    bus: &mut B,
+) -> Stepped
+    ensures effect { came_to result regs.new (B.state bus.new) ≡ row B.ports (first_touches form.now) (divided signed form.now) length regs.old (B.state bus.old) }
+    ensures lenders { B.lenders bus.new ≡ B.lenders bus.old }
 {
+    let a = match read(form.width, &form.first, &regs.general, bus) {
+        Ok(a) => a,
+        Err(at) => return Stepped::Outside(Access::Load, at),
+    };
     let high = part(form.width, high_half(form.width), &regs.general);
     let low = part(form.width, ACCUMULATOR, &regs.general);
-    let by = first(form, regs, words);
-    let quotient = divide(signed, form.width, high, low, by);
-    divided_into(quotient, form, regs)
+    match divide(signed, form.width, high, low, a) {
+        Some((quotient, remainder)) => {
+            set_halves(form.width, quotient, remainder, &mut regs.general);
+            regs.eip = onward(regs.eip, u32::from(length));
+            Stepped::Next
+        }
+        None => Stepped::Trap(DIVIDE_ERROR),
+    }
 }

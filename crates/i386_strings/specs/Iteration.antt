@@ -17,8 +17,8 @@ use Rattle.i386_alu.specs.Binary.{binary_of}
 use Rattle.i386_effects.specs.Accesses.{all_loaded}
 use Rattle.i386_effects.specs.Effect.{Commit, committed}
 use Rattle.i386_effects.specs.Operands.{part, with_part}
-use Rattle.i386_effects.specs.declared.lists.Touch.{Touch}
-use Rattle.i386_effects.specs.declared.lists.Write.{Write}
+use Rattle.i386_effects.specs.declared.accesses.Touch.{Touch}
+use Rattle.i386_effects.specs.declared.accesses.Write.{Write}
 use Rattle.i386_strings.specs.declared.iteration.Iteration.{Iteration}
 use Rattle.i386_strings.specs.declared.iteration.Iteration.TheVariants.{More, Finished, Outside}
 
@@ -83,6 +83,10 @@ repeats WhileUnequal = true
 -- with one, ECX falls by one
 abbrev pub counted : Repeat → List ℕ → List ℕ
 counted repeat g = if repeats repeat then slice_set g 1 ((slice_index g 1 + (2 ^ 32 - 1)) % 2 ^ 32) else g
+
+-- both pointers moved, and ECX counted
+abbrev pub advanced : Form → Eflags → List ℕ → List ℕ
+advanced f e g = counted f.repeat (moved_where (uses_target f.op) 7 f.width e (moved_where (uses_source f.op) 6 f.width e g))
 
 -- the registers after one iteration; EIP stays
 unfoldable pub iterated : Form → Registers → List ℕ → Registers

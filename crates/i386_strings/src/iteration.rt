@@ -1,17 +1,15 @@
 // One iteration.
-ghost use Rattle.std.specs.Prelude.{◌≡◌, [], true};
+ghost use Rattle.std.specs.Prelude.{◌≡◌, None, true};
 ghost use Rattle.memory_model.specs.Laws.{SamePlace};
 ghost use Rattle.cpu_state.specs.Width.{modulus};
 ghost use Rattle.i386_decode.specs.WellFormed.{is_string};
-ghost use Rattle.i386_effects.specs.Change.{stores_of};
-ghost use Rattle.i386_strings.specs.Iteration.{string_loads, string_writes, string_flags, compared, with_loaded, moved, moved_where, uses_source, uses_target, repeats, counted, iterated, compares, is_decided, is_last, iteration, StaysOutside};
+ghost use Rattle.i386_effects.specs.Accesses.{all_loaded};
+ghost use Rattle.i386_strings.specs.Iteration.{string_loads, compared, moved, moved_where, uses_source, uses_target, repeats, counted, advanced, compares, is_decided, is_last, ended_by, after_loads, iteration, StaysOutside};
 
 use cpu_state::{Access, Bus, ECX, EDI, ESI, Eflags, Op, Registers, Width};
 use i386_alu::binary;
 use i386_decode::{Form, Repeat};
-use i386_effects::{
-    ACCUMULATOR, Stores, Touch, Touches, Words, Write, commit, load_all, part, set_part, word,
-};
+use i386_effects::{ACCUMULATOR, part, set_part};
 
 /// What an iteration came to.
 #[derive(Clone, Copy, PartialEq, Eq, Debug)]
@@ -24,50 +22,6 @@ pub enum Iteration {
     Outside(Access, u32),
 }
 
-// The loads, in order.
-fn loads(op: Op, width: Width, regs: &Registers, touches: &mut Touches)
-    requires { touches.old ≡ [] }
-    ensures { touches.new ≡ string_loads op width regs.now }
-{
-    let source = Touch {
-        at: regs.general[ESI],
-        width,
-    };
-    let target = Touch {
-        at: regs.general[EDI],
-        width,
-    };
-    match op {
-        Op::Movs => touches.push(source),
-        Op::Lods => touches.push(source),
-        Op::Cmps => {
-            touches.push(source);
-            touches.push(target);
-        }
-        Op::Scas => touches.push(target),
-        _ => {}
-    }
-}
-
-// The store to [EDI].
-fn stores(op: Op, width: Width, regs: &Registers, words: &[u32]) -> Stores
-    ensures { stores_of result ≡ string_writes op width regs.now words.now }
-{
-    match op {
-        Op::Movs => Stores::One(Write {
-            at: regs.general[EDI],
-            width,
-            value: word(words, 0),
-        }),
-        Op::Stos => Stores::One(Write {
-            at: regs.general[EDI],
-            width,
-            value: part(width, ACCUMULATOR, &regs.general),
-        }),
-        _ => Stores::Nothing,
-    }
-}
-
 // The flags of a comparison of the low parts.
 fn compare(width: Width, a: u32, b: u32, eflags: Eflags) -> Eflags
     ensures { result ≡ compared width a b eflags }
@@ -75,22 +29,6 @@ fn compare(width: Width, a: u32, b: u32, eflags: Eflags) -> Eflags
     let a = (a as u64 % width.modulus()) as u32;
     let b = (b as u64 % width.modulus()) as u32;
     binary(Op::Cmp, width, a, b, eflags).1
-}
-
-// The flags.
-fn flags(op: Op, width: Width, regs: &Registers, words: &[u32]) -> Eflags
-    ensures { result ≡ string_flags op width regs.now words.now }
-{
-    match op {
-        Op::Cmps => compare(width, word(words, 0), word(words, 1), regs.eflags),
-        Op::Scas => compare(
-            width,
-            part(width, ACCUMULATOR, &regs.general),
-            word(words, 0),
-            regs.eflags,
-        ),
-        _ => regs.eflags,
-    }
 }
 
 // An address moved by the width, down where DF is set.
@@ -137,15 +75,6 @@ fn repeats(repeat: Repeat) -> bool
     }
 }
 
-// LODS.
-fn load(op: Op, width: Width, words: &[u32], general: &mut [u32; 8])
-    ensures { general.new ≡ with_loaded op width words.now general.old }
-{
-    if let Op::Lods = op {
-        set_part(width, ACCUMULATOR, word(words, 0), general);
-    }
-}
-
 // Moves ESI.
 fn move_source(test: bool, width: Width, eflags: Eflags, general: &mut [u32; 8])
     ensures { general.new ≡ moved_where test 6 width eflags general.old }
@@ -173,28 +102,13 @@ fn count(repeat: Repeat, general: &mut [u32; 8])
     }
 }
 
-// The registers after an iteration.
-#[tactic(auto, unfolding(crate::specs::Iteration::iterated))]
-fn iterated(form: &Form, regs: &Registers, words: &[u32]) -> Registers
-    ensures { result ≡ iterated form.now regs.now words.now }
+// Moves both pointers that a mnemonic uses, and counts.
+fn advance(form: &Form, eflags: Eflags, general: &mut [u32; 8])
+    ensures { general.new ≡ advanced form.now eflags general.old }
 {
-    let mut after = *regs;
-    load(form.op, form.width, words, &mut after.general);
-    move_source(
-        uses_source(form.op),
-        form.width,
-        regs.eflags,
-        &mut after.general,
-    );
-    move_target(
-        uses_target(form.op),
-        form.width,
-        regs.eflags,
-        &mut after.general,
-    );
-    count(form.repeat, &mut after.general);
-    after.eflags = flags(form.op, form.width, regs, words);
-    after
+    move_source(uses_source(form.op), form.width, eflags, general);
+    move_target(uses_target(form.op), form.width, eflags, general);
+    count(form.repeat, general);
 }
 
 fn compares(op: Op) -> bool
@@ -228,8 +142,134 @@ fn is_last(form: &Form, after: &Registers) -> bool
         || compares(form.op) && is_decided(form.repeat, after.eflags.zero)
 }
 
-/// Performs one iteration of MOVS, CMPS, STOS, LODS or SCAS (Intel 80386 manual, section 3.6). EIP isn't touched.
+// What an iteration that was performed came to.
+fn ended(form: &Form, regs: &Registers) -> Iteration
+    ensures { result ≡ ended_by None (is_last form.now regs.now) }
+{
+    if is_last(form, regs) {
+        Iteration::Finished
+    } else {
+        Iteration::More
+    }
+}
+
+// MOVS: the word at [ESI] to [EDI].
+#[tactic(auto, unfolding(crate::specs::Iteration::iterated))]
+fn move_word<B: Bus>(form: &Form, regs: &mut Registers, bus: &mut B) -> Iteration
+    requires { form.now.op ≡ Op.Movs }
+    ensures effect { record { iteration = result; registers = regs.new; bus = B.state bus.new } ≡ after_loads form.now regs.old (B.state bus.old) (all_loaded (B.state bus.old).side (string_loads Op.Movs form.now.width regs.old)) }
+    ensures lenders { B.lenders bus.new ≡ B.lenders bus.old }
+{
+    let source = regs.general[ESI];
+    let word = match bus.load(source, form.width) {
+        Some(word) => word,
+        None => return Iteration::Outside(Access::Load, source),
+    };
+    let target = regs.general[EDI];
+    if !bus.store(target, form.width, word) {
+        return Iteration::Outside(Access::Store, target);
+    }
+    advance(form, regs.eflags, &mut regs.general);
+    ended(form, regs)
+}
+
+// CMPS: the word at [ESI] with that at [EDI].
+#[tactic(auto, unfolding(crate::specs::Iteration::iterated))]
+fn compare_words<B: Bus>(form: &Form, regs: &mut Registers, bus: &mut B) -> Iteration
+    requires { form.now.op ≡ Op.Cmps }
+    ensures effect { record { iteration = result; registers = regs.new; bus = B.state bus.new } ≡ after_loads form.now regs.old (B.state bus.old) (all_loaded (B.state bus.old).side (string_loads Op.Cmps form.now.width regs.old)) }
+    ensures lenders { B.lenders bus.new ≡ B.lenders bus.old }
+{
+    let source = regs.general[ESI];
+    let word = match bus.load(source, form.width) {
+        Some(word) => word,
+        None => return Iteration::Outside(Access::Load, source),
+    };
+    let target = regs.general[EDI];
+    let with = match bus.load(target, form.width) {
+        Some(with) => with,
+        None => return Iteration::Outside(Access::Load, target),
+    };
+    let eflags = compare(form.width, word, with, regs.eflags);
+    advance(form, regs.eflags, &mut regs.general);
+    regs.eflags = eflags;
+    ended(form, regs)
+}
+
+// STOS: AL, AX or EAX to [EDI].
+#[tactic(auto, unfolding(crate::specs::Iteration::iterated))]
+fn store_word<B: Bus>(form: &Form, regs: &mut Registers, bus: &mut B) -> Iteration
+    requires { form.now.op ≡ Op.Stos }
+    ensures effect { record { iteration = result; registers = regs.new; bus = B.state bus.new } ≡ after_loads form.now regs.old (B.state bus.old) (all_loaded (B.state bus.old).side (string_loads Op.Stos form.now.width regs.old)) }
+    ensures lenders { B.lenders bus.new ≡ B.lenders bus.old }
+{
+    let target = regs.general[EDI];
+    let word = part(form.width, ACCUMULATOR, &regs.general);
+    if !bus.store(target, form.width, word) {
+        return Iteration::Outside(Access::Store, target);
+    }
+    advance(form, regs.eflags, &mut regs.general);
+    ended(form, regs)
+}
+
+// LODS: the word at [ESI] to AL, AX or EAX.
+#[tactic(auto, unfolding(crate::specs::Iteration::iterated))]
+fn load_word<B: Bus>(form: &Form, regs: &mut Registers, bus: &mut B) -> Iteration
+    requires { form.now.op ≡ Op.Lods }
+    ensures effect { record { iteration = result; registers = regs.new; bus = B.state bus.new } ≡ after_loads form.now regs.old (B.state bus.old) (all_loaded (B.state bus.old).side (string_loads Op.Lods form.now.width regs.old)) }
+    ensures lenders { B.lenders bus.new ≡ B.lenders bus.old }
+{
+    let source = regs.general[ESI];
+    let word = match bus.load(source, form.width) {
+        Some(word) => word,
+        None => return Iteration::Outside(Access::Load, source),
+    };
+    set_part(form.width, ACCUMULATOR, word, &mut regs.general);
+    advance(form, regs.eflags, &mut regs.general);
+    ended(form, regs)
+}
+
+// SCAS: AL, AX or EAX with the word at [EDI].
+#[tactic(auto, unfolding(crate::specs::Iteration::iterated))]
+fn scan_word<B: Bus>(form: &Form, regs: &mut Registers, bus: &mut B) -> Iteration
+    requires { form.now.op ≡ Op.Scas }
+    ensures effect { record { iteration = result; registers = regs.new; bus = B.state bus.new } ≡ after_loads form.now regs.old (B.state bus.old) (all_loaded (B.state bus.old).side (string_loads Op.Scas form.now.width regs.old)) }
+    ensures lenders { B.lenders bus.new ≡ B.lenders bus.old }
+{
+    let target = regs.general[EDI];
+    let with = match bus.load(target, form.width) {
+        Some(with) => with,
+        None => return Iteration::Outside(Access::Load, target),
+    };
+    let word = part(form.width, ACCUMULATOR, &regs.general);
+    let eflags = compare(form.width, word, with, regs.eflags);
+    advance(form, regs.eflags, &mut regs.general);
+    regs.eflags = eflags;
+    ended(form, regs)
+}
+
+// Performs one iteration: the effect alone.
 #[tactic(auto, unfolding(crate::specs::Iteration::iteration))]
+fn iterate_exactly<B: Bus>(form: &Form, regs: &mut Registers, bus: &mut B) -> Iteration
+    requires string { is_string form.now.op ≡ true }
+    ensures effect { record { iteration = result; registers = regs.new; bus = B.state bus.new } ≡ iteration form.now regs.old (B.state bus.old) }
+    ensures lenders { B.lenders bus.new ≡ B.lenders bus.old }
+{
+    if repeats(form.repeat) && regs.general[ECX] == 0 {
+        return Iteration::Finished;
+    }
+    match form.op {
+        Op::Movs => move_word(form, regs, bus),
+        Op::Cmps => compare_words(form, regs, bus),
+        Op::Stos => store_word(form, regs, bus),
+        Op::Lods => load_word(form, regs, bus),
+        Op::Scas => scan_word(form, regs, bus),
+        // no other operation is a string instruction
+        _ => Iteration::Finished,
+    }
+}
+
+/// Performs one iteration of MOVS, CMPS, STOS, LODS or SCAS (Intel 80386 manual, section 3.6). EIP isn't touched.
 pub fn iterate<B: Bus>(form: &Form, regs: &mut Registers, bus: &mut B) -> Iteration
     requires string { is_string form.now.op ≡ true }
     ensures effect { record { iteration = result; registers = regs.new; bus = B.state bus.new } ≡ iteration form.now regs.old (B.state bus.old) }
@@ -237,27 +277,5 @@ pub fn iterate<B: Bus>(form: &Form, regs: &mut Registers, bus: &mut B) -> Iterat
     ensures place { SamePlace (B.state bus.old).side (B.state bus.new).side }
     ensures lenders { B.lenders bus.new ≡ B.lenders bus.old }
 {
-    if repeats(form.repeat) && regs.general[ECX] == 0 {
-        return Iteration::Finished;
-    }
-    let mut touches = Touches::new();
-    loads(form.op, form.width, regs, &mut touches);
-    let mut words = Words::new();
-    if let Some(at) = load_all(touches.as_slice(), &mut words, bus) {
-        return Iteration::Outside(Access::Load, at);
-    }
-    let words = words.as_slice();
-    let after = iterated(form, regs, words);
-    let stores = stores(form.op, form.width, regs, words);
-    let last = is_last(form, &after);
-    match commit(&after, &stores, regs, bus) {
-        Some(at) => Iteration::Outside(Access::Store, at),
-        None => {
-            if last {
-                Iteration::Finished
-            } else {
-                Iteration::More
-            }
-        }
-    }
+    iterate_exactly(form, regs, bus)
 }

@@ -4,7 +4,8 @@ use Rattle.memory_model.specs.Side.{Side}
 use Rattle.cpu_state.specs.Bus.{State}
 use Rattle.cpu_state.specs.Eflags.{flags_of, with_interrupt}
 use Rattle.cpu_state.specs.declared.registers.Registers.{Registers}
-use Rattle.i386_execute.specs.Unit.{Effect, unit}
+use Rattle.i386_effects.specs.Effect.{Effect}
+use Rattle.i386_execute.specs.Unit.{unit}
 use Rattle.port_map.specs.Serial.{Serial, serial_ports}
 use Rattle.port_map.specs.declared.owner.Owner.{Owner}
 

@@ -1,6 +1,6 @@
 use Rattle.std.proofs.Common.{◌≡◌, drop}
 use Rattle.i386_effects.specs.Accesses.{first_outside_store}
-use Rattle.i386_effects.proofs.change.outside_store.Given as goal
+use Rattle.i386_effects.proofs.eight.outside_store.Given as goal
 
 -- the stores so far are inside
 abbrev pub invariant-loop-write : goal.invariant-loop-write

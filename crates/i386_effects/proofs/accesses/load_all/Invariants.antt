@@ -1,6 +1,6 @@
 use Rattle.std.proofs.Common.{◌≡◌, ◌++◌, length, drop}
 use Rattle.i386_effects.specs.Accesses.{first_outside, words_at}
-use Rattle.i386_effects.proofs.change.load_all.Given as goal
+use Rattle.i386_effects.proofs.accesses.load_all.Given as goal
 
 -- the words so far, and those that are left, are all
 abbrev pub invariant-loop-touch : goal.invariant-loop-touch

@@ -1,6 +1,6 @@
 use Rattle.std.proofs.Common.{◌≡◌, drop}
 use Rattle.i386_effects.specs.Accesses.{all_stored}
-use Rattle.i386_effects.proofs.change.store_all.Given as goal
+use Rattle.i386_effects.proofs.eight.store_all.Given as goal
 
 -- the stores that are left lead to where all lead
 abbrev pub invariant-loop-write : goal.invariant-loop-write
