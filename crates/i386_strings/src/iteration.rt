@@ -186,11 +186,11 @@ fn compare_words<B: Bus>(form: &Form, regs: &mut Registers, bus: &mut B) -> Iter
         None => return Iteration::Outside(Access::Load, source),
     };
     let target = regs.general[EDI];
-    let with = match bus.load(target, form.width) {
-        Some(with) => with,
+    let other = match bus.load(target, form.width) {
+        Some(other) => other,
         None => return Iteration::Outside(Access::Load, target),
     };
-    let eflags = compare(form.width, word, with, regs.eflags);
+    let eflags = compare(form.width, word, other, regs.eflags);
     advance(form, regs.eflags, &mut regs.general);
     regs.eflags = eflags;
     ended(form, regs)
