@@ -186,7 +186,6 @@ fn sib_byte(bytes: &[u8], at: usize) -> u8
 }
 
 /// Reads what follows a ModRM byte that names memory, behind `used` bytes.
-#[inline(never)]
 #[tactic(auto, unfolding(crate::specs::Reading::fields_at))]
 fn read_memory(
     row: &Row,
@@ -210,7 +209,6 @@ fn read_memory(
 }
 
 /// Reads what follows where there is neither a SIB byte nor a displacement, behind `used` bytes.
-#[inline(always)]
 #[tactic(auto, unfolding(crate::specs::Reading::fields_at))]
 fn read_plain(
     row: &Row,
@@ -262,8 +260,8 @@ fn read_row(
     }
 }
 
-/// The ModRM byte at an index, which that of the shortest instruction stands for where the bytes end, or what stands for it
-/// where there is none.
+/// The ModRM byte at an index: that of the shortest instruction where the bytes end before it, and what stands for one where
+/// there is none.
 fn modrm_behind(entry: &Entry, bytes: &[u8], at: usize) -> u8
     ensures { result ≡ modrm_or (least_modrm entry.now) (drop at bytes.now) }
 {
@@ -355,6 +353,7 @@ fn begins_with_prefix(bytes: &[u8]) -> bool
     0 < bytes.len() && is_prefix_byte(bytes[0])
 }
 
+/// Reads the instruction that at most 15 bytes begin with.
 #[tactic(auto, unfolding(crate::specs::Reading::answer))]
 fn read_short(bytes: &[u8], form: &mut Form) -> Extent
     requires { length bytes.now ≤ 15 }
@@ -367,6 +366,7 @@ fn read_short(bytes: &[u8], form: &mut Form) -> Extent
     }
 }
 
+/// What `decode` does, with its one clause that is an equation: the others follow from it.
 #[tactic(auto, unfolding(crate::specs::Reading::decode_of))]
 fn read(bytes: &[u8], form: &mut Form) -> Extent
     ensures { decoded_by result form.new ≡ decode_of bytes.now }
@@ -377,7 +377,6 @@ fn read(bytes: &[u8], form: &mut Form) -> Extent
 /// Reads the instruction that the bytes begin with into a form, and gives its length; `Short` where the bytes are the
 /// beginning of an instruction and not all of it, so that more bytes decide; `Undefined` where no instruction begins so,
 /// however the bytes go on. At most 15 bytes are read.
-#[inline(always)]
 pub fn decode(bytes: &[u8], form: &mut Form) -> Extent
     // A form, exactly where its spelling stands at the front.
     ensures form { (f : Form) (n : ℕ) → (decoded_by result form.new ≡ decoded.Form f n) ↔ BeginsWith bytes.now f n }
