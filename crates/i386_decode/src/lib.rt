@@ -8,8 +8,6 @@ mod laws;
 mod opcodes;
 mod reading;
 mod row;
-#[cfg(test)]
-mod tests;
 
 pub use form::{Address, Decoded, Form, Operand, Repeat};
 pub use laws::{computed_forms, decided, one_spelling, spelling_sizes, well_formed_spellings};

@@ -13,8 +13,6 @@ mod own_flag;
 mod products;
 mod results;
 mod stack;
-#[cfg(test)]
-mod tests;
 mod unit;
 
 pub use own_flag::privileged;
