@@ -10,6 +10,3 @@ pub use access::{
 };
 pub use memory::FlatMemory;
 pub use side::Side;
-
-#[cfg(test)]
-mod tests;

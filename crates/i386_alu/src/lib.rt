@@ -10,8 +10,6 @@ mod operand;
 mod products;
 mod quotients;
 mod shifts;
-#[cfg(test)]
-mod tests;
 mod two_operands;
 
 pub use bits::{bit, scan};

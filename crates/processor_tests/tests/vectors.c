@@ -1,13 +1,15 @@
-/* Prints what a real x86 processor makes of arithmetic, as the rows of the tables under src/tests/.
+/* Prints what a real x86 processor makes of arithmetic, as the rows of the tables under src/arithmetic/.
 
    cc -O1 -mno-red-zone -o vectors tests/vectors.c
    ./vectors binary            the rows of one table: binary, unary, shift, double_shift, multiply, divide, bit, scan, condition
    ./vectors random N SEED     N random rows of all tables, as plain numbers
 
-   Each row has the operation, the width, its operands, the flags before, the result, and the flags after. The flags are words
+   Each row has the operation, the width in bits, its operands, the flags before, the result, and the flags after; all numbers
+   but the width are hexadecimal. The flags are words
    of EFLAGS with CF PF AF ZF SF OF and bit 1. A flag that the Intel 80386 manual leaves undefined after the operation is given
    as it was before, and so are a result and flags that it leaves undefined as a whole (a double shift by more places than the
-   operand has, a bit scan of 0). A quotient that the processor refuses is None. */
+   operand has, a bit scan of 0). Behind a quotient stands a remainder, and where the processor
+   refuses the quotient 0 in place of 1, 0 and 0. The conditions 0 to 15 are the bits of one number. */
 #include <setjmp.h>
 #include <signal.h>
 #include <stdint.h>
@@ -93,53 +95,52 @@ static int plain; /* whether rows are plain numbers */
 static const char *const names[] = { "Add", "Or", "Adc", "Sbb", "And", "Sub", "Xor", "Cmp", "Test", "Inc", "Dec", "Not", "Neg",
   "Rol", "Ror", "Rcl", "Rcr", "Shl", "Shr", "Sar", "Shld", "Shrd", "Bt", "Bts", "Btr", "Btc", "Bsf", "Bsr" };
 static void begin(const char *kind, const char *name, int w) {
-  if (!plain) { printf("    %s W%u", name, bits[w]); return; }
+  if (!plain) { printf("%s %u", name, bits[w]); return; }
   u32 at = 0;
   while (strcmp(names[at], name)) at++;
   printf("%s %u %u", kind, at, bits[w]);
 }
-static void begin_signed(const char *kind, int is_signed, int w) {
-  if (plain) printf("%s %d %u", kind, is_signed, bits[w]); else printf("    %s W%u", is_signed ? "true" : "false", bits[w]);
+static void begin_signed(const char *kind, int is_signed, const char *name, int w) {
+  if (plain) printf("%s %d %u", kind, is_signed, bits[w]); else printf("%s %u", name, bits[w]);
 }
-static void number(u32 n) { printf(plain ? " %u" : " 0x%x", n); }
-static void gives(void) { if (!plain) fputs(" =>", stdout); }
-static void end(void) { puts(plain ? "" : ";"); }
+static void number(u32 n) { printf(plain ? " %u" : " %x", n); }
+static void end(void) { puts(""); }
 static u32 kept(u32 before, u32 after, u32 undefined) { return (after & ~undefined) | (before & undefined) | ONE; }
 
 static void binary_row(const struct row *r, int w) {
   u32 a = operand(w), b = operand(w), before = some_flags(), after = before;
   u32 value = r->of[w](a, b, 0, &after);
-  begin("binary", r->name, w); number(a); number(b); number(before); gives(); number(value); number(kept(before, after, r->undefined)); end();
+  begin("binary", r->name, w); number(a); number(b); number(before); number(value); number(kept(before, after, r->undefined)); end();
 }
 static void unary_row(const struct row *r, int w) {
   u32 a = operand(w), before = some_flags(), after = before;
   u32 value = r->of[w](a, 0, 0, &after);
-  begin("unary", r->name, w); number(a); number(before); gives(); number(value); number(kept(before, after, r->undefined)); end();
+  begin("unary", r->name, w); number(a); number(before); number(value); number(kept(before, after, r->undefined)); end();
 }
 static void shift_row(const struct row *r, int w, u32 count) {
   u32 a = operand(w), before = some_flags(), after = before, n = count % 32;
   u32 value = r->of[w](a, 0, count, &after);
   u32 undefined = n == 0 ? 0 : r->undefined | (n == 1 ? 0 : OF);
-  begin("shift", r->name, w); number(a); number(count); number(before); gives(); number(value); number(kept(before, after, undefined)); end();
+  begin("shift", r->name, w); number(a); number(count); number(before); number(value); number(kept(before, after, undefined)); end();
 }
 static void double_row(const struct row *r, int w, u32 count) {
   u32 a = operand(w), b = operand(w), before = some_flags(), after = before, n = count % 32;
   u32 value = r->of[w](a, b, count, &after);
   u32 undefined = n == 0 ? 0 : r->undefined;
   if (n > bits[w]) { value = a; undefined = ALL; }
-  begin("double", r->name, w); number(a); number(b); number(count); number(before); gives(); number(value);
+  begin("double", r->name, w); number(a); number(b); number(count); number(before); number(value);
   number(kept(before, after, undefined)); end();
 }
 static void bit_row(const struct row *r, int w) {
   u32 a = operand(w), place = draw() % 256, before = some_flags(), after = before;
   u32 value = r->of[w](a, place, 0, &after);
-  begin("bit", r->name, w); number(a); number(place); number(before); gives(); number(value); number(kept(before, after, r->undefined)); end();
+  begin("bit", r->name, w); number(a); number(place); number(before); number(value); number(kept(before, after, r->undefined)); end();
 }
 static void scan_row(const struct row *r, int w) {
   u32 source = operand(w), old = operand(w), before = some_flags(), after = before;
   u32 value = r->of[w](old, source, 0, &after);
   if (source == 0) value = old;
-  begin("scan", r->name, w); number(source); number(old); number(before); gives(); number(value); number(kept(before, after, r->undefined)); end();
+  begin("scan", r->name, w); number(source); number(old); number(before); number(value); number(kept(before, after, r->undefined)); end();
 }
 
 static void multiply_row(int is_signed, int w) {
@@ -150,7 +151,7 @@ static void multiply_row(int is_signed, int w) {
   else if (w == 1) { if (is_signed) MUL("imulw", "w"); else MUL("mulw", "w"); }
   else { if (is_signed) MUL("imull", "k"); else MUL("mull", "k"); }
   u32 after = kept(before, (u32)f & ALL, SF | ZF | AF | PF);
-  begin_signed("multiply", is_signed, w); number(a); number(b); number(before); gives(); number((u32)low & ones(w)); number((u32)high & ones(w));
+  begin_signed("multiply", is_signed, is_signed ? "Imul" : "Mul", w); number(a); number(b); number(before); number((u32)low & ones(w)); number((u32)high & ones(w));
   number(after); end();
 }
 
@@ -160,13 +161,13 @@ static void divide_row(int is_signed, int w) {
   volatile u32 high = operand(w), low = operand(w), by = operand(w);
   if (draw() % 4) { high = by ? high % by : 0; if (is_signed) high = draw() % 2 ? 0 : ones(w); }
   u64 a = low, d = high;
-  begin_signed("divide", is_signed, w); number(high); number(low); number(by); gives();
-  if (sigsetjmp(refused, 1)) { fputs(plain ? " -" : " None", stdout); end(); return; }
+  begin_signed("divide", is_signed, is_signed ? "Idiv" : "Div", w); number(high); number(low); number(by);
+  if (sigsetjmp(refused, 1)) { fputs(plain ? " -" : " 0 0 0", stdout); end(); return; }
 #define DIV(insn, reg) __asm__ volatile(insn " %" reg "[b]" : "+a"(a), "+d"(d) : [b] "r"((u64)by) : "cc")
   if (w == 0) { a = low | high << 8; if (is_signed) DIV("idivb", "b"); else DIV("divb", "b"); d = a >> 8; }
   else if (w == 1) { if (is_signed) DIV("idivw", "w"); else DIV("divw", "w"); }
   else { if (is_signed) DIV("idivl", "k"); else DIV("divl", "k"); }
-  printf(plain ? " %u %u" : " Some((0x%x, 0x%x))", (u32)a & ones(w), (u32)d & ones(w)); end();
+  printf(plain ? " %u %u" : " 1 %x %x", (u32)a & ones(w), (u32)d & ones(w)); end();
 }
 
 /* The conditions 0 to 15 of some flags, by SETcc. */
@@ -176,8 +177,10 @@ static void condition_row(u32 before) {
 #define SET(k, cc) __asm__ volatile(FLAGS_IN "set" cc " %[h]" : [h] "=q"(held[k]) : [f] "r"(f) : "cc", "memory");
   SET(0, "o") SET(1, "no") SET(2, "b") SET(3, "ae") SET(4, "e") SET(5, "ne") SET(6, "be") SET(7, "a")
   SET(8, "s") SET(9, "ns") SET(10, "p") SET(11, "np") SET(12, "l") SET(13, "ge") SET(14, "le") SET(15, "g")
-  if (plain) printf("condition %u", before); else printf("    0x%x =>", before);
-  for (int k = 0; k < 16; k++) printf(" %d", held[k]);
+  u32 holds = 0;
+  for (int k = 0; k < 16; k++) holds |= (u32)held[k] << k;
+  printf("%s", plain ? "condition" : "Setcc 8"); number(before);
+  if (plain) for (int k = 0; k < 16; k++) printf(" %d", held[k]); else number(holds);
   end();
 }
 

@@ -1,7 +1,7 @@
 #!/usr/bin/env python3
-"""Takes the forms of byte strings from GNU objdump, and prints them as the table src/tests/spellings.rt.
+"""Takes the forms of byte strings from GNU objdump, and prints them as the table src/spellings/forms.rt.
 
-Run it in this crate's folder: tests/objdump_forms.py > src/tests/spellings.rt. With the word check it prints nothing, and
+Run it in this crate's folder: tests/objdump_forms.py > src/spellings/forms.rt. With the word check it prints nothing, and
 ends with 1 where the table differs from what objdump says today.
 
 Each string is disassembled on its own, in Intel syntax. What a form has beyond objdump's text is its own convention:
@@ -136,7 +136,7 @@ def memory(text):
             base = "Some(%d)" % GENERAL[part][0]
         else:
             displacement = number(part) if sign != "-" else -number(part) % 2**32
-    return "memory!(%s, %s, 0x%x)" % (base, index, displacement)
+    return "Memory(Address { base: %s, index: %s, displacement: %d })" % (base, index, displacement)
 
 
 def operand(text):
@@ -146,11 +146,11 @@ def operand(text):
     size = re.match(r"(BYTE|WORD|DWORD) PTR ", text)
     if size or "[" in text or ":" in text:
         return memory(re.sub(r"^\w+ PTR ", "", text)), SIZES[size.group(1)] if size else None, "memory"
-    return "Immediate(0x%x)" % number(text), None, "number"
+    return "Immediate(%d)" % number(text), None, "number"
 
 
 def form_of(text):
-    """The form of a string, as Rattle's macro writes it, and its length."""
+    """The form of a string, each part as Rattle prints it for debugging, and its length."""
     code = bytes.fromhex(text)
     length, words = disassembled(text)
     assert length == len(code), (text, length, words)
@@ -185,11 +185,11 @@ def form_of(text):
     width = widths[0] if widths else unsized
     operands = [o for o, _, _ in found]
     if name in ("jcc", "jmp", "call", "loop", "loope", "loopne", "jecxz") and found[0][2] == "number":
-        operands = ["Immediate(0x%x)" % ((number(texts[0]) - length) % 2**32)]
+        operands = ["Immediate(%d)" % ((number(texts[0]) - length) % 2**32)]
     elif opcode in EXCHANGE_OPCODES:
         operands.reverse()
     elif opcode in SIGNED_BYTE_OPCODES and code[-1] >= 0x80:
-        operands[-1] = "Immediate(0x%x)" % (number(texts[-1]) | 0xFFFFFF00)
+        operands[-1] = "Immediate(%d)" % (number(texts[-1]) | 0xFFFFFF00)
     if condition is not None:
         operands.append("Immediate(%d)" % condition)
     if name == "ret" and not operands:
@@ -197,7 +197,7 @@ def form_of(text):
     if name in ("movzx", "movsx"):
         operands.append("Immediate(%d)" % {"W8": 8, "W16": 16}[widths[1]])
     if name in ("rol", "ror", "rcl", "rcr", "shl", "shr", "sar") and len(operands) == 1:
-        operands.append("Immediate(0x1)")
+        operands.append("Immediate(1)")
     if name == "in":
         width = found[0][1]
     if name == "out":
@@ -207,66 +207,19 @@ def form_of(text):
 
 def table():
     """The lines of the table."""
-    lines = []
-    strings = []
-    for line in STRINGS.strip().splitlines():
-        if line.startswith("#"):
-            strings.append(line)
-        else:
-            strings += line.split()
     version = subprocess.run(["objdump", "--version"], check=True, capture_output=True, text=True).stdout.splitlines()[0]
-    lines.append("// Spellings and their forms, by tests/objdump_forms.py on %s with %s." % (datetime.date.today(), version))
-    lines.append("")
-    lines.append("use crate::form::Operand::{Absent, Immediate, Register};")
-    lines.append("use crate::form::{Address, Form, Operand, Repeat};")
-    lines.append("use cpu_state::{Op, Width};")
-    lines.append("")
-    lines.append("""/// 15 bytes, the form that they begin with, and how many of them it has; those behind are 0.
-pub struct Spelling {
-    pub bytes: [u8; 15],
-    pub form: Form,
-    pub size: u8,
-}
-
-macro_rules! memory {
-    ($base:expr, $index:expr, $displacement:expr) => {
-        Operand::Memory(Address {
-            base: $base,
-            index: $index,
-            displacement: $displacement,
-        })
-    };
-}
-
-macro_rules! spelling {
-    ($bytes:expr, $size:expr, $op:ident $width:ident $repeat:ident, $first:expr, $second:expr, $third:expr) => {
-        Spelling {
-            bytes: $bytes,
-            form: Form {
-                op: Op::$op,
-                width: Width::$width,
-                first: $first,
-                second: $second,
-                third: $third,
-                repeat: Repeat::$repeat,
-            },
-            size: $size,
-        }
-    };
-}
-""")
-    count = sum(not s.startswith("#") for s in strings)
-    lines.append("pub static SPELLINGS: [Spelling; %d] = [" % count)
-    for text in strings:
-        if text.startswith("#"):
-            lines.append("    // " + text[2:])
-            continue
-        name, width, operands, repeat, length = form_of(text)
-        operands = (operands + ["Absent"] * 3)[:3]
-        shown = ", ".join("0x%02x" % b for b in bytes.fromhex(text).ljust(15, b"\0"))
-        lines.append("    spelling!([%s], %d, %s %s %s, %s)," % (shown, length, name.capitalize(), width, repeat, ", ".join(operands)))
-    lines.append("];")
-    return "\n".join(lines).splitlines()
+    lines = [
+        "// Spellings and their forms, by tests/objdump_forms.py on %s with %s." % (datetime.date.today(), version),
+        "",
+        "/// A line each: the bytes of a spelling, how many there are, its operation, its width, its three operands and its repeat.",
+        'pub(super) const FORMS: &str = "\\',
+    ]
+    for line in STRINGS.strip().splitlines():
+        for text in [] if line.startswith("#") else line.split():
+            name, width, operands, repeat, length = form_of(text)
+            operands = (operands + ["Absent"] * 3)[:3]
+            lines.append(" ".join([text, str(length), name.capitalize(), width, *operands, repeat]))
+    return lines + ['";']
 
 
 def main():
@@ -274,7 +227,7 @@ def main():
     if sys.argv[1:] != ["check"]:
         print("\n".join(made))
         return
-    with open("src/tests/spellings.rt", encoding="utf-8") as file:
+    with open("src/spellings/forms.rt", encoding="utf-8") as file:
         kept = file.read().splitlines()
     # the first line has the date and the version
     sys.exit(0 if kept[1:] == made[1:] else 1)

@@ -1,4 +1,4 @@
-/* Prints what a real x86 processor makes of one unit, as the rows of src/tests/PART.rt, where PART is moves, stack_and_jumps,
+/* Prints what a real x86 processor makes of one unit, as the rows of src/units/PART.rt, where PART is moves, stack_and_jumps,
    arithmetic or bits_and_strings.
 
    cc -O1 -o units tests/units.c
@@ -7,8 +7,8 @@
 
    Each instruction runs in 32-bit mode of a 64-bit process, with the trap flag set, so that one unit is performed: one
    instruction, or one iteration of a repeated string instruction. The memory is 4096 bytes at 10000h: the instruction, and from
-   offset 800h on the bytes of pattern(). A row has the instruction, which registers it began with, whether it was the divide
-   error, the registers and EFLAGS after it, and a sum of the memory from 800h on. A flag that the Intel 80386 manual leaves
+   offset 800h on the bytes of pattern(). A row has, in hexadecimal, the instruction, which registers it began with, whether it
+   was the divide error, the registers from EAX to EDI, EIP and EFLAGS after it, and a sum of the memory from 800h on. A flag that the Intel 80386 manual leaves
    undefined is given as it was before. Where a repeated comparison goes on there is no row: processors of today write its flags
    at its end alone, and the manual with each iteration. */
 #define _GNU_SOURCE
@@ -129,11 +129,9 @@ static void row(const struct unit *unit, int set) {
   u32 flags = (after[9] & KEPT & ~unit->undefined) | (begin[8] & unit->undefined) | 2;
   if (divide_error) flags = begin[8];
   if (after[8] == FIRST && (memory[n - 1] == 0xa6 || memory[n - 1] == 0xa7 || memory[n - 1] == 0xae || memory[n - 1] == 0xaf)) return;
-  printf("    (&[");
-  for (u32 i = 0; i < n; i++) printf(i ? ", 0x%.2s" : "0x%.2s", unit->bytes + 2 * i);
-  printf("], %d, %s, [", set, divide_error ? "true" : "false");
-  for (int i = 0; i < 8; i++) printf(i ? ", 0x%x" : "0x%x", after[i]);
-  printf("], 0x%x, 0x%x, 0x%x),\n", after[8], flags, sum);
+  printf("%s %x %x", unit->bytes, set, divide_error ? 1 : 0);
+  for (int i = 0; i < 9; i++) printf(" %x", after[i]);
+  printf(" %x %x\n", flags, sum);
 }
 
 int main(int count, char **words) {
