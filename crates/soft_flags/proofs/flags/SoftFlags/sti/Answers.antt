@@ -1,0 +1,5 @@
+use Rattle.std.proofs.Common.{rules}
+use Rattle.soft_flags.proofs.flags.SoftFlags.sti.Goals as goal
+
+pub returns : goal.returns
+returns c = search rules
