@@ -1,5 +1,5 @@
 // The store and the sink in memory.
-use crate::{Fetched, LastName, MemorySink, MemoryStore, Sink, Store, StoreFault};
+use outside_io::{Fetched, LastName, MemorySink, MemoryStore, Sink, Store, StoreFault};
 use std::alloc::Global;
 use std::test::Fail;
 
@@ -11,17 +11,12 @@ fn bytes_of(fetched: Result<Fetched, StoreFault>) -> Option<Vec<u8>> {
     }
 }
 
-fn two_files(alloc: Global) -> Result<Vec<(String, Vec<u8>)>, Fail> {
-    let mut files = Vec::new(alloc);
-    files.push((String::from_str(alloc, "a")?, b"12345".to_vec(alloc)?))?;
-    files.push((String::from_str(alloc, "a")?, b"6".to_vec(alloc)?))?;
-    Ok(files)
-}
-
 #[test]
 fn the_store_holds_files_and_fails_where_told(rt: HostRuntime) -> Result<(), Fail> {
     let alloc = rt.alloc();
-    let mut store = MemoryStore::new(two_files(alloc)?, [2].to_vec(alloc)?);
+    let mut files = Vec::new(alloc);
+    files.push((String::from_str(alloc, "a")?, b"12345".to_vec(alloc)?))?;
+    let mut store = MemoryStore::new(files, [2].to_vec(alloc)?);
     let first = bytes_of(store.fetch(alloc, "a", 5)).ok_or("not fetched")?;
     assert_eq!(rt; first.as_slice(), b"12345".as_slice());
     assert_eq!(rt; store.fetch(alloc, "a", 5).err(), Some(StoreFault::Failed));
