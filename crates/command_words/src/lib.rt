@@ -9,6 +9,3 @@ mod values;
 pub use rows::{reads_usual_words, refuses_other_words};
 pub use run::{RunWords, WordsRefusal, read_run_words};
 pub use values::{is_name, is_number, read_ticks};
-
-#[cfg(test)]
-mod tests;

@@ -8,8 +8,6 @@ mod event;
 mod line;
 mod read;
 mod script;
-#[cfg(test)]
-mod tests;
 
 pub use event::{Event, Events};
 pub use read::read_script;

@@ -9,8 +9,6 @@ mod placing;
 mod read;
 mod segments;
 mod spans;
-#[cfg(test)]
-mod tests;
 
 pub use image::{ElfRefusal, Image, Segment};
 pub use placing::{PlaceRefusal, place};

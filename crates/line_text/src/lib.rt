@@ -10,6 +10,3 @@ pub use cutting::cut;
 pub use fitting::{add, add_decimal};
 pub use line::LineText;
 pub use numbers::{are_digits, read_decimal, read_hex};
-
-#[cfg(test)]
-mod tests;

@@ -12,6 +12,3 @@ pub use accept::{FILE_LIMIT, accept_image, accept_script, accept_system};
 pub use cause::{Cause, Refusal};
 pub use line::refusal_line;
 pub use run::AcceptedRun;
-
-#[cfg(test)]
-mod tests;

@@ -8,6 +8,3 @@ mod stub;
 pub use image::place_image;
 pub use sides::{Sides, make_sides};
 pub use stub::{STACK_SIZE, STUB, STUB_ROOM, reserved_spans, store_stub};
-
-#[cfg(test)]
-mod tests;

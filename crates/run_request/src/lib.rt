@@ -8,6 +8,3 @@ mod request;
 pub use fetch::fetch_file;
 pub use open::{Opened, no_script, open_run, refused};
 pub use request::request_run;
-
-#[cfg(test)]
-mod tests;

@@ -13,6 +13,3 @@ pub fn side_digest(bytes: &[u8]) -> [u8; 32]
 {
     Sha256::digest(bytes)
 }
-
-#[cfg(test)]
-mod tests;

@@ -16,8 +16,6 @@
 mod name;
 mod read;
 mod system;
-#[cfg(test)]
-mod tests;
 
 pub use name::{Name, Names};
 pub use read::read_system;

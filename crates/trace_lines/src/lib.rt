@@ -11,6 +11,3 @@ pub use line_kinds::{BreachKind, FaultKind, GLine, HLine, Line, Mode, RLine, Sai
 pub use read::read_line;
 pub use tick_lines::Lines;
 pub use write::{write_g, write_h, write_r};
-
-#[cfg(test)]
-mod tests;

@@ -1,0 +1,76 @@
+// Lines of refusals, and small files.
+use crate::parts::SMALL;
+use run_files::Cause::{Document, Field, Image, Line, Ticks, Words};
+use run_files::{Cause, Refusal, accept_image, accept_script, accept_system, refusal_line};
+use std::alloc::Global;
+use std::test::Fail;
+
+/// A cause, the name of the file or the text of the ticks, and the line.
+static LINES: [(Cause, &str, &str); 5] = [
+    (Words, "", "E usage\n"),
+    (Ticks, "1000000001", "E 40 1000000001\n"),
+    (Field, "s.toml", "E 11 s.toml\n"),
+    (Image(1), "m.elf", "E 20.1 m.elf\n"),
+    (Line(12), "d.txt", "E 30 d.txt 12\n"),
+];
+
+#[test]
+fn lines_of_refusals(rt: HostRuntime) {
+    for (cause, name, wanted) in &LINES {
+        let line = refusal_line(*cause, name.as_bytes());
+        assert_eq!(rt; line.as_bytes(), wanted.as_bytes());
+    }
+}
+
+const SYSTEM: &str =
+    "version = 1\nimage = 'k.bin'\nguest_memory = 65536\nreal_time_memory = 69632\n";
+
+// Why a system file isn't taken that has one more line.
+fn system_refusal(alloc: Global, line: &str) -> Result<Option<Refusal>, Fail> {
+    let mut text = String::from_str(alloc, SYSTEM)?;
+    text.push_str(line)?;
+    Ok(accept_system(alloc, text.as_bytes()).err())
+}
+
+#[test]
+fn systems_without_modules(rt: HostRuntime) -> Result<(), Fail> {
+    let alloc = rt.alloc();
+    assert_eq!(rt; system_refusal(alloc, "modules = []")?, None);
+    assert_eq!(rt;
+        system_refusal(alloc, "modules = ['m.elf']")?,
+        Some(Refusal::Because(Field))
+    );
+    assert_eq!(rt;
+        system_refusal(alloc, "version =")?,
+        Some(Refusal::Because(Document))
+    );
+    Ok(())
+}
+
+#[test]
+fn an_image_beside_the_stub(rt: HostRuntime) -> Result<(), Fail> {
+    let alloc = rt.alloc();
+    let system = accept_system(alloc, SYSTEM.as_bytes())
+        .ok()
+        .ok_or("no system")?;
+    let sides = accept_image(alloc, &system, &SMALL).ok().ok_or("no image")?;
+    assert_eq!(rt; sides.entry, 0x1234);
+    assert_eq!(rt; sides.memory.guest_bytes().len(), 65_536);
+    assert_eq!(rt; sides.memory.real_time_bytes().len(), 69_632);
+    assert_eq!(rt; sides.memory.real_time_bytes()[1], 0xF9);
+    assert_eq!(rt;
+        accept_image(alloc, &system, &SMALL[..51]).err(),
+        Some(Refusal::Because(Image(1)))
+    );
+    Ok(())
+}
+
+#[test]
+fn a_script_is_refused_by_its_first_bad_line(rt: HostRuntime) {
+    let alloc = rt.alloc();
+    assert!(rt; accept_script(alloc, b"# nothing\n").is_ok());
+    assert_eq!(rt;
+        accept_script(alloc, b"3 line 5\n5 line 4").err(),
+        Some(Refusal::Because(Line(2)))
+    );
+}
