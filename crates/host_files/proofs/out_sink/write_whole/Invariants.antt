@@ -1,5 +1,5 @@
 use Rattle.std.proofs.Common.{length}
-use Rattle.rtlinux_cli.proofs.out_sink.write_whole.Given as goal
+use Rattle.host_files.proofs.out_sink.write_whole.Given as goal
 
 -- each write takes a byte at least
 abbrev pub decreases-pieces : goal.decreases-pieces
