@@ -4,19 +4,20 @@ mod forms;
 
 use crate::rows::{Kind, check};
 use forms::FORMS;
-use i386_decode::{Decoded, decode};
+use i386_decode::{Extent, Form, decode};
 use std::alloc::Global;
 
 // What these bytes begin with, as a row says it.
 fn answer(alloc: Global, bytes: &[u8]) -> Option<String> {
-    match decode(bytes) {
-        Decoded::Form(form, size) => format!(in alloc;
+    let mut form = Form::new();
+    match decode(bytes, &mut form) {
+        Extent::Whole(size) => format!(in alloc;
             "{size} {:?} {:?} {:?} {:?} {:?} {:?}",
             form.op, form.width, form.first, form.second, form.third, form.repeat
         )
         .ok(),
-        Decoded::Undefined => String::from_str(alloc, "Undefined").ok(),
-        Decoded::Short => String::from_str(alloc, "Short").ok(),
+        Extent::Undefined => String::from_str(alloc, "Undefined").ok(),
+        Extent::Short => String::from_str(alloc, "Short").ok(),
     }
 }
 

@@ -8,7 +8,8 @@ use crate::rows::{Kind, check, numbers};
 use arithmetic::ARITHMETIC;
 use bits_and_strings::BITS_AND_STRINGS;
 use cpu_state::{Access, Bus, EAX, ESP, Eflags, Privileged, Registers, Width};
-use i386_execute::{Stepped, after, privileged, step};
+use i386_effects::Stepped;
+use i386_execute::{after, privileged, step};
 use moves::MOVES;
 use stack_and_jumps::STACK_AND_JUMPS;
 use std::alloc::Global;
@@ -35,8 +36,8 @@ impl<'a> Bus for SmallBus<'a> {
         flat_memory::fits(self.first, &*self.bytes, at, count)
     }
 
-    fn fetch(&self, at: u32, into: &mut [u8; 15]) -> usize {
-        flat_memory::fetch(self.first, &*self.bytes, at, into)
+    fn fetch(&self, at: u32) -> &[u8] {
+        flat_memory::fetch(self.first, &*self.bytes, at)
     }
 
     fn load(&self, at: u32, width: Width) -> Option<u32> {
