@@ -186,6 +186,7 @@ fn sib_byte(bytes: &[u8], at: usize) -> u8
 }
 
 /// Reads what follows a ModRM byte that names memory, behind `used` bytes.
+#[inline(never)]
 #[tactic(auto, unfolding(crate::specs::Reading::fields_at))]
 fn read_memory(
     row: &Row,
@@ -209,6 +210,7 @@ fn read_memory(
 }
 
 /// Reads what follows where there is neither a SIB byte nor a displacement, behind `used` bytes.
+#[inline(always)]
 #[tactic(auto, unfolding(crate::specs::Reading::fields_at))]
 fn read_plain(
     row: &Row,
@@ -377,6 +379,7 @@ fn read(bytes: &[u8], form: &mut Form) -> Extent
 /// Reads the instruction that the bytes begin with into a form, and gives its length; `Short` where the bytes are the
 /// beginning of an instruction and not all of it, so that more bytes decide; `Undefined` where no instruction begins so,
 /// however the bytes go on. At most 15 bytes are read.
+#[inline(always)]
 pub fn decode(bytes: &[u8], form: &mut Form) -> Extent
     // A form, exactly where its spelling stands at the front.
     ensures form { (f : Form) (n : ℕ) → (decoded_by result form.new ≡ decoded.Form f n) ↔ BeginsWith bytes.now f n }
