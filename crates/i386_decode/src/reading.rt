@@ -1,11 +1,11 @@
 // Reading an instruction.
-ghost use Rattle.std.specs.Prelude.{◌≡◌, ◌<◌, ◌≤◌, ◌^◌, ◌+◌, length, take, drop, slice_index_or, ℕ, ◌↔◌, ◌||◌, ◌==◌, Some, true, nat_lt, if◌then◌else◌, option_copied};
+ghost use Rattle.std.specs.Prelude.{◌≡◌, ◌<◌, ◌≤◌, ◌^◌, ◌+◌, length, take, drop, slice_index_or, ℕ, ◌↔◌, ◌||◌, ◌==◌, Some, true, nat_lt, if◌then◌else◌};
 ghost use Rattle.i386_decode.specs.declared.form.Form.{Form};
 ghost use Rattle.i386_decode.specs.declared.form.Decoded.TheVariants as decoded;
 ghost use Rattle.i386_decode.specs.InPlace.{decoded_by, numbers_at, read_at, is_prefixed};
-ghost use Rattle.i386_decode.specs.Fields.{is_narrow, names_register, repeat_of, repeat_by};
-ghost use Rattle.i386_decode.specs.Spelling.{entry_of, row_at, BeginsWith, BeginsSpelling, SpellsNothing};
-ghost use Rattle.i386_decode.specs.Reading.{front, opcode_at, least_in, least_modrm, modrm_or, fields_at, row_read, entry_read, answer, decode_of, number};
+ghost use Rattle.i386_decode.specs.Fields.{is_narrow, modrm_size, names_register, no_modrm, repeat_of, repeat_by};
+ghost use Rattle.i386_decode.specs.Spelling.{entry_of, BeginsWith, BeginsSpelling, SpellsNothing};
+ghost use Rattle.i386_decode.specs.Reading.{front, opcode_at, least_in, fields_at, row_read, entry_read, answer, decode_of, number};
 ghost use Rattle.i386_decode.specs.WellFormed.{IsWellFormed, WhenForm};
 
 use crate::fields::{
@@ -262,42 +262,33 @@ fn read_row(
     }
 }
 
-/// The ModRM byte at an index: that of the shortest instruction where the bytes end before it, and what stands for one where
-/// there is none.
-fn modrm_behind(entry: &Entry, bytes: &[u8], at: usize) -> u8
-    ensures { result ≡ modrm_or (least_modrm entry.now) (drop at bytes.now) }
+/// Reads what follows the opcode of a row that has no ModRM byte, behind `used` bytes.
+#[inline(always)]
+fn read_bare(
+    row: &Row,
+    narrow: bool,
+    repeat: Repeat,
+    used: usize,
+    bytes: &[u8],
+    form: &mut Form,
+) -> Extent
+    requires few { used < 2 ^ 63 + 2 }
+    requires first { length bytes.now ≤ 15 }
+    requires bare { modrm_size row.now.modrm ≡ 0 }
+    ensures { decoded_by result form.new ≡ row_read (Some row.now) narrow repeat used (length bytes.now) no_modrm (drop used bytes.now) }
 {
-    match entry {
-        Entry::Invalid => NO_MODRM,
-        Entry::One(row) => if modrm_count(row.modrm) == 0 {
-            NO_MODRM
-        } else {
-            byte_at(bytes, at, LEAST_MODRM)
-        },
-        Entry::Many(group) => byte_at(bytes, at, least_in(*group)),
+    if row.barred && narrow {
+        return Extent::Undefined;
     }
+    read_plain(row, narrow, repeat, used, NO_MODRM, bytes, form)
 }
 
-/// The row at an entry with this reg field.
-fn row_in(entry: &'static Entry, reg: u8) -> Option<&'static Row>
-    requires { reg < 8 }
-    ensures { option_copied result ≡ row_at entry.now reg }
-{
-    match entry {
-        Entry::Invalid => None,
-        Entry::One(row) => Some(row),
-        Entry::Many(group) => match group_entry(*group, reg) {
-            None => None,
-            Some(row) => Some(row),
-        },
-    }
-}
-
-/// Reads what follows the opcode, behind `used` bytes.
+/// Reads what follows the opcode, behind `used` bytes. Where the bytes end before a ModRM byte, that of the shortest
+/// instruction stands for it.
 #[inline(always)]
 #[tactic(auto, unfolding(crate::specs::Reading::entry_read))]
 fn read_entry(
-    entry: &'static Entry,
+    entry: &Entry,
     narrow: bool,
     repeat: Repeat,
     used: usize,
@@ -308,10 +299,20 @@ fn read_entry(
     requires first { length bytes.now ≤ 15 }
     ensures { decoded_by result form.new ≡ entry_read entry.now narrow repeat used (length bytes.now) (drop used bytes.now) }
 {
-    let modrm = modrm_behind(entry, bytes, used);
-    match row_in(entry, reg_of(modrm)) {
-        None => Extent::Undefined,
-        Some(row) => read_row(row, narrow, repeat, used, modrm, bytes, form),
+    match entry {
+        Entry::Invalid => Extent::Undefined,
+        Entry::One(row) => if modrm_count(row.modrm) == 0 {
+            read_bare(row, narrow, repeat, used, bytes, form)
+        } else {
+            read_row(row, narrow, repeat, used, byte_at(bytes, used, LEAST_MODRM), bytes, form)
+        },
+        Entry::Many(group) => {
+            let modrm = byte_at(bytes, used, least_in(*group));
+            match group_entry(*group, reg_of(modrm)) {
+                None => Extent::Undefined,
+                Some(row) => read_row(row, narrow, repeat, used, modrm, bytes, form),
+            }
+        }
     }
 }
 

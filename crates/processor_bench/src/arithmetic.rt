@@ -1,14 +1,10 @@
-// How many operations of arithmetic are done in a second: `alu_bench COUNT` does that many rounds of a mixed list and prints one
-// line. Without words it does nothing.
-#![tactic(auto)]
+// A mixed list of operations of arithmetic, done over and over.
 
 use cpu_state::{Eflags, Op, Width};
 use i386_alu::{binary, bit, condition, divide, double_shift, multiply, scan, shift, unary};
-use std::time::Instant;
-use std::{env, io};
 
 /// The operations of one round.
-const ROUND: u128 = 12;
+pub const ROUND: u32 = 12;
 
 // What one round begins with and leaves behind.
 #[derive(Clone, Copy)]
@@ -38,8 +34,8 @@ fn round(work: Work) -> Work {
     }
 }
 
-// So many rounds.
-fn rounds(count: u32) -> Work {
+/// What so many rounds leave behind.
+pub fn rounds(count: u32) -> u32 {
     let mut work = Work {
         value: 1,
         flags: Eflags::from_word(2),
@@ -47,27 +43,5 @@ fn rounds(count: u32) -> Work {
     for _round in 0..count {
         work = round(work);
     }
-    work
-}
-
-// So many rounds, and a line on them.
-fn measure(rt: &HostRuntime, count: u32) -> io::Result<()> {
-    let start = Instant::now(rt)?;
-    let last = rounds(count);
-    let spent = start.elapsed(rt)?.as_micros();
-    let done = ROUND * count as u128;
-    let each_second = (done * 1_000_000).checked_div(spent).unwrap_or(0);
-    println!(*rt;
-        "{done} operations in {spent} microseconds, {each_second} in a second, ending with {:08x}",
-        last.value
-    )
-}
-
-fn main(rt: HostRuntime) -> io::Result<()> {
-    for word in env::args(&rt)?.skip(1) {
-        if let Ok(count) = word.as_str().parse::<u32>() {
-            measure(&rt, count)?;
-        }
-    }
-    Ok(())
+    work.value
 }

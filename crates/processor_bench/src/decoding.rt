@@ -1,10 +1,9 @@
-// Measures `decode`. With a count as its word it decodes a mixed list of instructions that often and prints how many
-// instructions it decoded in a second; without words it does nothing.
-#![tactic(auto)]
+// A mixed list of instructions, decoded over and over.
 
 use i386_decode::{Form, decode};
-use std::time::Instant;
-use std::{env, io};
+
+/// How many instructions a pass has.
+pub const PASS: u32 = 16;
 
 /// What a fetch gives at each of some instructions: the instruction and what stands behind it.
 static FETCHED: [[u8; 15]; 16] = [
@@ -89,7 +88,7 @@ fn changes_in_pass(form: &mut Form, before: &mut Form) -> u64 {
 }
 
 /// The same in so many passes.
-fn changes(count: u32) -> u64 {
+pub fn changes(count: u32) -> u64 {
     let mut form = Form::new();
     let mut before = Form::new();
     let mut changes = 0u64;
@@ -97,23 +96,4 @@ fn changes(count: u32) -> u64 {
         changes = changes.wrapping_add(changes_in_pass(&mut form, &mut before));
     }
     changes
-}
-
-fn main(rt: HostRuntime) -> io::Result<()> {
-    let Some(word) = env::args(&rt)?.nth(1) else {
-        return Ok(());
-    };
-    let Ok(count) = word.parse::<u32>() else {
-        return Err(io::ErrorKind::InvalidInput.into());
-    };
-    let start = Instant::now(&rt)?;
-    let changes = changes(count);
-    let nanoseconds = start.elapsed(&rt)?.as_nanos();
-    let decodes = count as u128 * 16;
-    let rate = match (decodes * 1_000_000_000).checked_div(nanoseconds) {
-        Some(rate) => rate,
-        None => 0,
-    };
-    println!(rt; "{rate} decodes per second, {changes} changes")?;
-    Ok(())
 }
