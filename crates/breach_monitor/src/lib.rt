@@ -7,8 +7,6 @@ mod buses;
 mod guest;
 mod laws;
 mod real_time;
-#[cfg(test)]
-mod tests;
 
 pub use buses::{GuestBus, RealTimeBus};
 pub use guest::{Breach, GuestUnit, guest_unit, guest_unit_on};

@@ -10,6 +10,3 @@ mod service;
 pub use dispatch::{Drained, drain};
 pub use laws::goes_to_owner;
 pub use service::{take_first, take_line};
-
-#[cfg(test)]
-mod tests;

@@ -64,30 +64,3 @@ impl Pending {
         lowest32(minus32(self.marked, mask))
     }
 }
-
-#[cfg(test)]
-mod tests {
-    use super::*;
-
-    #[test]
-    fn the_lowest_enabled_line_comes_first(rt: HostRuntime) {
-        let mut pending = Pending::new();
-        pending.mark(31);
-        pending.mark(4);
-        pending.mark(0);
-        for (mask, line) in [
-            (0x0000_0000, Some(0)),
-            (0x0000_0001, Some(4)),
-            (0x0000_0011, Some(31)),
-            (0xFFFF_FFFF, None),
-        ] {
-            assert_eq!(rt; pending.lowest(mask), line, "mask {mask}");
-        }
-        pending.clear(0);
-        assert_eq!(rt; pending.lowest(0), Some(4));
-        pending.mark_all(0x8002);
-        assert_eq!(rt; pending.lowest(0x0000_0002), Some(4));
-        assert_eq!(rt; pending.lowest(0x0000_0012), Some(15));
-        assert_eq!(rt; pending.lowest(0), Some(1));
-    }
-}

@@ -13,6 +13,3 @@ pub use laws::{keeps_latches, latches_rises, requests_in_order};
 pub use pair::{
     CHIP_LINES, FIRST_VECTOR, MASTER_COMMAND, MASTER_DATA, Pair, SLAVE_COMMAND, SLAVE_DATA,
 };
-
-#[cfg(test)]
-mod tests;

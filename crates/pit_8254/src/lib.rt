@@ -11,6 +11,3 @@ mod pit;
 pub use counter::{Access, Counter, Mode};
 pub use laws::{follows_pulses, is_low_once_per_cycle, rises_after_count, takes_next_count};
 pub use pit::{CONTROL_WORD, COUNTER_0, COUNTER_1, COUNTER_2, Pit};
-
-#[cfg(test)]
-mod tests;

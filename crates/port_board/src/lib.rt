@@ -5,8 +5,6 @@
 
 mod board;
 mod laws;
-#[cfg(test)]
-mod tests;
 
 pub use board::{Board, Edges, NotYours};
 pub use laws::{latches_rises, samples_owner_alone, sets_one_shot, ticks_one_shot};

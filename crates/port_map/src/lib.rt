@@ -5,8 +5,6 @@
 
 mod owner;
 mod serial;
-#[cfg(test)]
-mod tests;
 
 pub use owner::{COM1_LINE, COM2_LINE, Owner};
 pub use serial::{read_serial, write_serial};

@@ -8,6 +8,3 @@
 mod irqs;
 
 pub use irqs::{EBUSY, EINVAL, Irqs};
-
-#[cfg(test)]
-mod tests;

@@ -4,6 +4,3 @@
 mod entry;
 
 pub use entry::{Entry, enter};
-
-#[cfg(test)]
-mod tests;

@@ -2,8 +2,6 @@
 //! and one that waits to be read for 128 is a timeout. The divisor and the frame's form have no effect on time.
 #![tactic(auto)]
 
-#[cfg(test)]
-mod tests;
 mod uart;
 
 pub use uart::Uart;

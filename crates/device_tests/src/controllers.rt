@@ -2,7 +2,7 @@
 // requested, "The Cascade Buffer/Comparator" for the slave's lines behind the master's line 2, "Interrupt Sequence" for an
 // acknowledge, "Initialization Command Words" and "Operation Control Words" for the writes, and "Reading the 8259A Status".
 
-use crate::{MASTER_COMMAND, MASTER_DATA, Pair, SLAVE_COMMAND, SLAVE_DATA};
+use pic_8259::{MASTER_COMMAND, MASTER_DATA, Pair, SLAVE_COMMAND, SLAVE_DATA};
 
 /// OCW2: the non-specific end of interrupt.
 const NONSPECIFIC_EOI: u8 = 0x20;

@@ -2,7 +2,8 @@
 // cascade's and 4 the guest's serial port's. Handlers start in the order in which a pair of 8259As acknowledges (8259A data sheet,
 // "Fully Nested Mode" and "Cascade Mode"). A refusal is the negative of Linux's EBUSY, 16, where a line is held or none is free, and
 // of its EINVAL, 22, where the line can't be held, isn't held or isn't taken. Soft lines are 16 to 31, the lowest free one first.
-use crate::Irqs;
+
+use rt_irqs::Irqs;
 
 #[test]
 fn handlers_start_in_the_controllers_order(rt: HostRuntime) {

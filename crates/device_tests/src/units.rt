@@ -1,7 +1,7 @@
 // Accesses to ports, and what the real-time side may not do. Registers of the 16550 by its data sheet, instructions by the
 // Intel 80386 manual.
 
-use crate::{Breach, Fault, GuestUnit, RealTimeUnit, guest_unit_on, real_time_unit_on};
+use breach_monitor::{Breach, Fault, GuestUnit, RealTimeUnit, guest_unit_on, real_time_unit_on};
 use cpu_state::{Access, Privileged, Registers};
 use port_board::Board;
 
@@ -42,23 +42,9 @@ fn real_time(program: &[u8], units: u8, regs: &mut Registers, board: &mut Board)
 /// A program, how many units of it, and what the last one comes to, and AL after it.
 type GuestRow = (&'static [u8], u8, GuestUnit, u32);
 
-static GUEST_UNITS: [GuestRow; 9] = [
+static GUEST_UNITS: [GuestRow; 7] = [
     // MOV DX,3FAh and IN AL,DX: no interrupt of the serial port is pending
     (&[0x66, 0xba, 0xfa, 0x03, 0xec], 2, GuestUnit::Next, 0x01),
-    // MOV DX,3FFh, MOV AL,5Ah, OUT DX,AL, MOV AL,0, IN AL,DX: the scratch register
-    (
-        &[0x66, 0xba, 0xff, 0x03, 0xb0, 0x5a, 0xee, 0xb0, 0, 0xec],
-        5,
-        GuestUnit::Next,
-        0x5a,
-    ),
-    // MOV DX,3F9h, MOV AL,2, OUT DX,AL, INC EDX, IN AL,DX: the transmitter is empty and asks
-    (
-        &[0x66, 0xba, 0xf9, 0x03, 0xb0, 0x02, 0xee, 0x42, 0xec],
-        5,
-        GuestUnit::Next,
-        0x02,
-    ),
     // MOV DX,2F8h and IN AL,DX
     (
         &[0x66, 0xba, 0xf8, 0x02, 0xec],
@@ -66,24 +52,23 @@ static GUEST_UNITS: [GuestRow; 9] = [
         GuestUnit::Breach(Breach::Port(0x2f8)),
         0,
     ),
-    // MOV DX,FFFFh and IN EAX,DX: ports FFFFh, 0, 1 and 2
-    (
-        &[0x66, 0xba, 0xff, 0xff, 0xed],
-        2,
-        GuestUnit::Next,
-        0xffff_ffff,
-    ),
     // IN EAX,1Fh: ports 1Fh to 22h
     (&[0xe5, 0x1f], 1, GuestUnit::Breach(Breach::Port(0x1f)), 0),
-    // OUT 43h,AL
-    (&[0xe6, 0x43], 1, GuestUnit::Breach(Breach::Port(0x43)), 0),
-    // HLT; INT F0h
+    // MOV EAX,[1Eh], of which two bytes are behind the side
+    (
+        &[0xa1, 0x1e, 0, 0, 0],
+        1,
+        GuestUnit::Breach(Breach::Outside(Access::Load, 0x1e)),
+        0,
+    ),
+    // HLT; INT F7h; INT F0h
     (
         &[0xf4],
         1,
         GuestUnit::Breach(Breach::Privileged(Privileged::Hlt)),
         0,
     ),
+    (&[0xcd, 0xf7], 1, GuestUnit::Breach(Breach::Int(0xf7)), 0),
     (&[0xcd, 0xf0], 1, GuestUnit::Gate(0xf0, 2), 0),
 ];
 
@@ -124,17 +109,10 @@ fn a_byte_of_the_guest_leaves_its_port(rt: HostRuntime) {
 /// A program, how many units of it, ESP, what the last one comes to, and ESP after it.
 type RealTimeRow = (&'static [u8], u8, u32, RealTimeUnit, u32);
 
-static REAL_TIME_UNITS: [RealTimeRow; 19] = [
-    // INT F8h, INT F9h, INT FAh, INT F0h, INT3, INTO with OF clear
+static REAL_TIME_UNITS: [RealTimeRow; 8] = [
+    // INT F8h, INT F9h, INT F0h
     (&[0xcd, 0xf8], 1, 0x1020, RealTimeUnit::Gate(0x1002), 0x1020),
     (&[0xcd, 0xf9], 1, 0x1020, RealTimeUnit::Return, 0x1020),
-    (
-        &[0xcd, 0xfa],
-        1,
-        0x1020,
-        RealTimeUnit::Fault(Fault::Int),
-        0x1020,
-    ),
     (
         &[0xcd, 0xf0],
         1,
@@ -142,17 +120,7 @@ static REAL_TIME_UNITS: [RealTimeRow; 19] = [
         RealTimeUnit::Fault(Fault::Int),
         0x1020,
     ),
-    (&[0xcc], 1, 0x1020, RealTimeUnit::Fault(Fault::Int), 0x1020),
-    (&[0xce], 1, 0x1020, RealTimeUnit::Next, 0x1020),
-    // MOV AL,7Fh, INC AL and INTO: OF is set
-    (
-        &[0xb0, 0x7f, 0xfe, 0xc0, 0xce],
-        3,
-        0x1020,
-        RealTimeUnit::Fault(Fault::Int),
-        0x1020,
-    ),
-    // DIV EAX of 0; UD2
+    // DIV EAX of 0; UD2; HLT
     (
         &[0xf7, 0xf0],
         1,
@@ -167,7 +135,6 @@ static REAL_TIME_UNITS: [RealTimeRow; 19] = [
         RealTimeUnit::Fault(Fault::Opcode),
         0x1020,
     ),
-    // HLT; IRET
     (
         &[0xf4],
         1,
@@ -175,15 +142,7 @@ static REAL_TIME_UNITS: [RealTimeRow; 19] = [
         RealTimeUnit::Fault(Fault::Privileged),
         0x1020,
     ),
-    (
-        &[0xcf],
-        1,
-        0x1010,
-        RealTimeUnit::Fault(Fault::Privileged),
-        0x1010,
-    ),
-    // PUSHF at the side's first address, and a byte before it
-    (&[0x9c], 1, 0x1004, RealTimeUnit::Next, 0x1000),
+    // PUSHF, whose doubleword begins a byte before the side
     (
         &[0x9c],
         1,
@@ -191,41 +150,10 @@ static REAL_TIME_UNITS: [RealTimeRow; 19] = [
         RealTimeUnit::Fault(Fault::Memory),
         0x1003,
     ),
-    // POPF of the side's last word, and a byte behind it
-    (&[0x9d], 1, 0x101c, RealTimeUnit::Next, 0x1020),
-    (
-        &[0x9d],
-        1,
-        0x101d,
-        RealTimeUnit::Fault(Fault::Memory),
-        0x101d,
-    ),
-    // MOV EAX,[0FFFh]
-    (
-        &[0xa1, 0xff, 0x0f, 0, 0],
-        1,
-        0x1020,
-        RealTimeUnit::Fault(Fault::Memory),
-        0x1020,
-    ),
-    // MOV DX,3F8h and IN AL,DX; with 2F8h; OUT 20h,AL
+    // MOV DX,3F8h and IN AL,DX
     (
         &[0x66, 0xba, 0xf8, 0x03, 0xec],
         2,
-        0x1020,
-        RealTimeUnit::Fault(Fault::Port),
-        0x1020,
-    ),
-    (
-        &[0x66, 0xba, 0xf8, 0x02, 0xec],
-        2,
-        0x1020,
-        RealTimeUnit::Next,
-        0x1020,
-    ),
-    (
-        &[0xe6, 0x20],
-        1,
         0x1020,
         RealTimeUnit::Fault(Fault::Port),
         0x1020,
