@@ -113,6 +113,8 @@ for _ in range(20):
         if words[0] in endless:
             continue
         taken, high = run(words[1:])
+        if taken is None and words == measured[0]:
+            sys.exit(f"bench: {ticks} ticks of the loop take more than a minute, so there is nothing to compare with")
         if taken is None:
             endless.add(words[0])
         else:
@@ -122,13 +124,19 @@ for _ in range(20):
 def report(name, rate, unit, loop, rest=""):
     print(f"{name:46} {rate / 1e6:7.2f} million {unit} per second, {rate / loop:.2f} of the loop{rest}")
 
+def no_end(name):
+    print(f"{name}: no end within a minute", file=sys.stderr)
+
 loop = ticks / seconds[measured[0]]
 for words in [words for words in measured if words[1] == program]:
-    report(words[0], ticks / seconds[words], "ticks", loop, f", {peak[words]} KB at most")
+    if words[0] in endless:
+        no_end(words[0])
+    else:
+        report(words[0], ticks / seconds[words], "ticks", loop, f", {peak[words]} KB at most")
 emulated = [words for words in measured if words[1] != program]
 for short, long in zip(emulated[::2], emulated[1::2]):
     if short[0] in endless:
-        print(f"{short[0]}: no end within a minute", file=sys.stderr)
+        no_end(short[0])
     elif seconds[long] - seconds[short] < 0.01:
         print(f"{short[0]}: it didn't run the loop here", file=sys.stderr)
     else:

@@ -157,9 +157,9 @@ def serial_echo(trace):
           [tick for entry, count in zip(entries, [4, 3, 6]) for tick in steps_of(entry + 38 + WRITE_TO_LEAVE, count)])
     # Main halts in tick 50. From an entry to the next halt it takes 51 ticks and 10 for each byte.
     equal("the halts", trace.halts(), [50] + [entry + 51 + 10 * count for entry, count in zip(entries, [4, 3, 6])])
-    # EIP is behind the halt in main, EFLAGS has the flag set, and the stack is that of main.
+    # EIP is behind the halt in main, EFLAGS has the flag set, ECX is the number of vectors, and the stack is that of main.
     equal("the end", trace.registers(),
-          ("halted", [0x10ba, 0x246, 0, 64, 0x3f9, 0xffffffef, SIDE - 32, SIDE - 24, 0, 0]))
+          ("halted", [0x10ba, 0x246, 0, 256, 0x3f9, 0xffffffef, SIDE - 32, SIDE - 24, 0, 0]))
 
 
 def transmit(trace):

@@ -1,5 +1,5 @@
-# An entry for each vector below 64, eight bytes apart. It pushes its vector and all registers, calls C with the place of this
-# frame, takes the registers back and returns by the soft gate.
+# An entry for each vector, eight bytes apart. It pushes its vector and all registers, calls C with the place of this frame, takes
+# the registers back and returns by the soft gate. The vector is pushed as a signed byte, which is short: its low byte is read.
 #include "gates.h"
     .text
     .code32
@@ -7,8 +7,8 @@
     .balign 8
 entries:
     .set vector, 0
-    .rept 64
-    pushl $vector
+    .rept 256
+    pushl $((vector ^ 0x80) - 0x80)
     jmp enter_handler
     .balign 8
     .set vector, vector + 1

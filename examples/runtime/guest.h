@@ -97,23 +97,33 @@ static inline void outb(unsigned short port, unsigned char value) {
 
 /* Handlers, of entries.S and handlers.c. Lines 0 to 31 have the vectors 32 to 63. */
 
-enum { LINE_SERIAL = 4, VECTORS = 64 };
+enum { LINE_SERIAL = 4, VECTORS = 256 };
 
 #define VECTOR_OF_LINE(line) (32 + (line))
 
 /* What stands on the stack while a handler runs: a handler may read and change it. */
 struct frame {
     unsigned edi, esi, ebp, esp, ebx, edx, ecx, eax;    /* as PUSHA leaves them; ESP isn't taken back */
-    unsigned vector;
+    unsigned char vector, signs[3];                     /* the vector; the rest of its word says nothing */
     unsigned eip, segment, eflags;                      /* as the entry pushed them */
 };
 
 typedef void (*handler)(struct frame *);
 
-/* Lets `handle` serve a vector below 64 that pushes no error code, as an interrupt gate or a trap gate. */
-void set_handler(unsigned vector, handler handle, unsigned char attribute);
+/* Of handlers.c: what set_handler does for a vector that is there. */
+void fill_vector(unsigned vector, handler handle, unsigned char attribute);
 
-/* Takes the table of all vectors that have a handler; another vector below 64 is a shutdown. The same answer as load_idt. */
+/* Lets `handle` serve a vector below 256, as an interrupt gate or a trap gate: 0, or -1 where there is no such vector. No vector
+   has an error code on the stack. Those from F0h on are gates or breaches, which ask no handler. */
+static inline int set_handler(unsigned vector, handler handle, unsigned char attribute) {
+    if (vector >= VECTORS) {
+        return -1;
+    }
+    fill_vector(vector, handle, attribute);
+    return 0;
+}
+
+/* Takes the table of all vectors that have a handler; a vector without one is a shutdown. The same answer as load_idt. */
 int load_handlers(void);
 
 #endif

@@ -14,7 +14,7 @@ void serve(struct frame *frame) {
     handlers[frame->vector](frame);
 }
 
-void set_handler(unsigned vector, handler handle, unsigned char attribute) {
+void fill_vector(unsigned vector, handler handle, unsigned char attribute) {
     handlers[vector] = handle;
     set_descriptor(&table[vector], (void (*)(void))(entries + vector * ENTRY_SIZE), attribute);
 }
