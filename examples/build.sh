@@ -10,15 +10,16 @@ folder=$(realpath "$1")
 name=$(basename "$folder")
 cd "$(dirname "$0")"
 
-# A link without spaces, of a name that no other folder has.
+# A link without spaces, of a name that no other folder has. It and the objects go when the image is built.
 linked=out/linked/$(tr -c 'A-Za-z0-9\n' _ <<< "$name")-$(cksum <<< "$folder" | cut -d ' ' -f 1)
+trap 'rm -rf "$linked" "out/$linked"' EXIT
 mkdir -p out/linked
 ln -sfn "$folder" "$linked"
 
 if [ $# = 1 ]; then
-    make -s "$linked/image.elf"
+    make -s "$linked/image.elf" NAMED="$linked=$folder"
 else
-    make -s "$linked/flat.bin"
+    make -s "$linked/flat.bin" NAMED="$linked=$folder"
     mv "$folder/flat.bin" "$folder/$name.bin"
     mv "$folder/flat.symbols" "$folder/$name.symbols"
 fi
