@@ -96,6 +96,7 @@ trace first_steps run examples/first_steps/system.toml --ticks 1000
 trace shadow_and_halt run examples/shadow_and_halt/system.toml --ticks 2000
 trace serial_echo run examples/serial_echo/system.toml --ticks 2500
 trace transmit flat examples/transmit/transmit.bin 1600
+trace round_robin run examples/round_robin/system.toml --ticks 4000
 
 # Words and files that are refused, files that can't be read, and a breach: the status, and all that is written.
 answers() {

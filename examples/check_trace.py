@@ -182,8 +182,40 @@ def transmit(trace):
     equal("the end", trace.registers(), ("halted", [7, 2, len(text), SIDE, 0x3f9, 0, SIDE, 0, 0, 0]))
 
 
+CLOCK = 32 + 8
+
+
+def round_robin(trace):
+    real_time_side(trace)
+    trace.only("G", ["com1", "enter", "int", "halt", "end", "memory"])
+    text, ticks = trace.sent()
+    equal("the bytes of each task", [text.count(byte) for byte in b"wpt"], [5, 5, 1])
+    equal("there are no other bytes", len(text), 11)
+    script = (HERE / "round_robin/script").read_text().splitlines()
+    rises = [int(line.split()[0]) for line in script if not line.startswith("#")]
+    entries = [tick for tick, vector in trace.entries()]
+    equal("the vectors of the entries", {vector for _, vector in trace.entries()}, {CLOCK})
+    equal("each rise is entered, before the next", [sum(rise <= tick < rise + 150 for tick in entries) for rise in rises], [1] * 20)
+    calls = [tick for tick, vector in trace.traps()]
+    equal("the vectors of the calls", {vector for _, vector in trace.traps()}, {SYSTEM_CALL})
+    # A rise is entered at once, unless it comes while a call is served, with the flag clear.
+    for rise, entry in zip(rises, entries):
+        equal(f"a call is served at the rise in {rise}", entry == rise or any(rise - 100 < tick < rise for tick in calls), True)
+    # The waiter sends its byte behind the tenth rise of the clock.
+    equal("the waiter has waited", ticks[text.index(b"t")] > entries[9] + WRITE_TO_LEAVE, True)
+    # The worker has 5 + 1 calls, the polite task 5 + 5 + 1, and the waiter asks the clock at least once and has 2 more.
+    equal("there are enough calls", len(calls) >= 6 + 11 + 3, True)
+    # A turn begins at the start, at each rise of the clock while a task is alive, at each giving way, and at the end of a task but
+    # the last.
+    mode, registers = trace.registers()
+    equal("the mode", mode, "halted")
+    equal("the turns", sum(registers[2].to_bytes(4, "big")), 1 + 20 + 5 + 2)
+    equal("the end is behind all calls", [tick > max(calls) for tick in trace.halts()], [True])
+    equal("main has returned", (registers[0], registers[6]), (0x1007, SIDE))
+
+
 if __name__ == "__main__":
-    checks = {check.__name__: check for check in (interrupts, first_steps, shadow_and_halt, serial_echo, transmit)}
+    checks = {check.__name__: check for check in (interrupts, first_steps, shadow_and_halt, serial_echo, transmit, round_robin)}
     if len(sys.argv) != 2 or sys.argv[1] not in checks:
         sys.exit(f"usage: check_trace.py {'|'.join(checks)} < TRACE")
     checks[sys.argv[1]](Trace(sys.stdin.read()))

@@ -16,7 +16,7 @@ from typing import List
 TOP = os.path.realpath(os.path.join(os.path.dirname(__file__), "..", ".."))
 TOOLS = ["explain", "steps", "annotate", "schedule_picture", "trace_vcd", "script_recipes"]
 TRACES = ["examples/first_steps/expected", "examples/shadow_and_halt/expected", "examples/serial_echo/expected",
-          "examples/transmit/expected", "examples/interrupts/expected", "tools/tests/real_time.trace"]
+          "examples/round_robin/expected", "examples/transmit/expected", "examples/interrupts/expected", "tools/tests/real_time.trace"]
 SVG = "{http://www.w3.org/2000/svg}"
 WITHOUT_A_MARK = ("on", "halt", "end", "memory", "reply")
 
