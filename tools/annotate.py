@@ -11,7 +11,8 @@ from common.guest import Guest, guest_if_named
 from common.hints import breach_hint, end_hints, shutdown_hint
 from common.states import moments
 from common.symbols import Symbols, symbols_of
-from common.trace import Line, State, add_trace_arguments, read_trace, run_named, state_of
+from common.trace import Line, State, state_of
+from common.trace_source import add_trace_arguments, read_trace, run_named
 
 EPILOG = """Each line is printed as it is, and what is known of it below, behind an arrow. Names are those of --elf, or of the file
 beside the image that ends in `.symbols`; they need binutils.

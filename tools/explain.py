@@ -2,7 +2,6 @@
 """Says in words what is wrong with a system file and with the image and the script that it names, or with a flat image."""
 from __future__ import annotations
 
-import os
 from typing import List, Optional
 
 from common import command

@@ -9,7 +9,7 @@ from typing import List, Tuple
 
 from common import command
 from common.timeline import Span, Timeline, timeline
-from common.trace import add_trace_arguments, read_trace
+from common.trace_source import add_trace_arguments, read_trace
 
 WIDTH, LEFT, RIGHT, ROW, TOP, BOTTOM = 1200, 110, 30, 24, 40, 30
 LETTER = 7

@@ -8,7 +8,8 @@ from typing import Dict, Iterator, List, TextIO, Tuple
 
 from common import command
 from common.timeline import guest_modes, holders_of
-from common.trace import Line, add_trace_arguments, read_trace
+from common.trace import Line
+from common.trace_source import add_trace_arguments, read_trace
 
 EPILOG = """Signals: `holder` who is on the processor and `guest` whether it runs, as texts; `com1` and `com2` the byte that left last, `vector` that
 of the last entry, `function` that of the last gate of the real-time side, `one_shot` the last setting of the timer; and an event for each

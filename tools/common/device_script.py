@@ -2,7 +2,7 @@
 from __future__ import annotations
 
 import re
-from typing import List, NamedTuple, Optional
+from typing import List, NamedTuple
 
 from .causes import Mistake, Refused
 

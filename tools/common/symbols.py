@@ -10,8 +10,6 @@ from typing import Dict, Iterable, List, Optional, Tuple
 
 from . import command
 
-NO_SOURCE = "??:0"
-
 
 class Symbols:
     """The names of a file; none where there is no file."""
