@@ -8,18 +8,19 @@ usage="usage: examples/build.sh FOLDER [--flat]"
 [ -d "$1" ] || { echo "build: there is no folder $1" >&2; exit 1; }
 folder=$(realpath "$1")
 name=$(basename "$folder")
-cd "$(dirname "$0")"
 
-# A link without spaces, of a name that no other folder has. It and the objects go when the image is built.
-linked=out/linked/$(tr -c 'A-Za-z0-9\n' _ <<< "$name")-$(cksum <<< "$folder" | cut -d ' ' -f 1)
-trap 'rm -rf "$linked" "out/$linked"' EXIT
-mkdir -p out/linked
-ln -sfn "$folder" "$linked"
+# The folder has a name without spaces here, and the objects go with it.
+work=$(mktemp -d)
+trap 'rm -rf "$work"' EXIT
+ln -s "$folder" "$work/guest"
+build() {
+    make -s -C "$(dirname "$0")" OBJECTS="$work/objects" NAMED="$work/guest=$folder" "$work/guest/$1"
+}
 
 if [ $# = 1 ]; then
-    make -s "$linked/image.elf" NAMED="$linked=$folder"
+    build image.elf
 else
-    make -s "$linked/flat.bin" NAMED="$linked=$folder"
+    build flat.bin
     mv "$folder/flat.bin" "$folder/$name.bin"
     mv "$folder/flat.symbols" "$folder/$name.symbols"
 fi

@@ -2,7 +2,7 @@
 from __future__ import annotations
 
 import struct
-from typing import List, NamedTuple, Optional
+from typing import List, NamedTuple, NoReturn, Optional
 
 from .causes import Mistake, Refused
 
@@ -13,7 +13,7 @@ TYPES = {0: "no type", 1: "an object file, which isn't linked yet: link it with 
          4: "a core file"}
 MACHINES = {62: "x86-64: compile with -m32 and link with -m elf_i386", 40: "ARM", 183: "AArch64", 243: "RISC-V"}
 # Where ld puts an executable for the i386 that has no linker script.
-USUAL_PLACE = 0x8048000
+USUAL_PLACE, USUAL_RANGE = 0x8048000, 0x1000000
 
 
 class Segment(NamedTuple):
@@ -103,7 +103,7 @@ def place_mistake(name: str, image: Image, guest_memory: int) -> Optional[Mistak
 
 
 def place_advice(segment: Segment, guest_memory: int) -> str:
-    if segment.place & ~0xfff == USUAL_PLACE or USUAL_PLACE <= segment.place < USUAL_PLACE + 0x1000000:
+    if USUAL_PLACE <= segment.place < USUAL_PLACE + USUAL_RANGE:
         return (f". {USUAL_PLACE:x}h is where ld puts a program of Linux: link with `-T examples/runtime/image.ld`, or with "
                 "-Ttext=0x1000")
     if segment.place >= guest_memory:
@@ -122,7 +122,7 @@ def program_headers(content: bytes) -> List[ProgramHeader]:
     return [ProgramHeader(*(field(content, at + offset, 4) for offset in (0, 4, 8, 16, 20))) for at in places]
 
 
-def refuse(name: str, rule: int, why: str) -> None:
+def refuse(name: str, rule: int, why: str) -> NoReturn:
     raise Refused(Mistake(f"20.{rule}", name, why))
 
 
