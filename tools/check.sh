@@ -1,6 +1,6 @@
 #!/usr/bin/env bash
-# Tries the tools with a built program: their helps and errors, the examples' traces, mistakes made on purpose, and the damaged files
-# of the crates' tests. What isn't installed is skipped with a line.
+# Tries the tools with a built program: their helps and errors, the examples' traces, mistakes made on purpose, and damaged files. What
+# isn't installed is skipped with a line.
 # usage: tools/check.sh PROGRAM
 set -euo pipefail
 if [ $# != 1 ] || [ ! -x "$1" ]; then

@@ -13,10 +13,8 @@ from typing import Iterator, List, Tuple
 
 sys.path.insert(0, str(pathlib.Path(__file__).resolve().parents[1]))
 
-from damaged_files import SYSTEM, WITH_SCRIPT, Case, all_cases, small_image
+from damaged_files import SMALL, SYSTEM, WITH_SCRIPT, Case, all_cases
 from explain import Report, explain_flat, explain_system
-
-FEWEST_CASES = 900
 
 
 def write(folder: str, case: Case) -> None:
@@ -51,7 +49,7 @@ def odd_files(folder: str) -> Iterator[Tuple[str, List[str]]]:
     for name, system in (("absent", SYSTEM), ("no script", WITH_SCRIPT), ("nul", SYSTEM.replace(b"k.bin", b"k\\u0000.bin")),
                          ("folder", SYSTEM.replace(b"k.bin", b".")), ("huge image", SYSTEM)):
         place = os.path.join(folder, name)
-        write(place, Case(name, system, small_image(), b"", None))
+        write(place, Case(name, system, SMALL, b"", None))
         os.remove(os.path.join(place, "d.txt"))
         if name == "absent":
             os.remove(os.path.join(place, "k.bin"))
@@ -80,8 +78,6 @@ def main() -> None:
             write(place, case)
             runs.append((place, ["run", "s.toml", "--ticks", "1"]))
             wanted.append((case.name, case.wanted))
-        if len(runs) < FEWEST_CASES:
-            sys.exit(f"explain: only {len(runs)} damaged files, which are fewer than the crates' tests have")
         for place, words in odd_files(folder):
             runs.append((place, words))
             wanted.append((" ".join([os.path.basename(place), *words]), None))
