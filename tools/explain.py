@@ -2,10 +2,11 @@
 """Says in words what is wrong with a system file and with the image and the script that it names, or with a flat image."""
 from __future__ import annotations
 
+import os
 from typing import List, Optional
 
 from common import command
-from common.causes import Mistake, Refused, content_of
+from common.causes import Mistake, Refused, another, content_of
 from common.device_script import Event, read_script
 from common.elf_image import Image, place_mistake, read_image
 from common.system_file import System, read_system
@@ -44,7 +45,18 @@ def explain_system(name: str) -> Report:
     if system:
         explain_image(report, name, system)
         explain_script(report, name, system)
+        report.notes += other_files(name, system)
     return report
+
+
+def other_files(name: str, system: System) -> List[str]:
+    """That a file is opened from here, where the reader may think of the one beside the system file."""
+    notes = []
+    for file in (system.image, system.script):
+        near = another(file, name) if file is not None and os.path.isfile(file) else None
+        if near:
+            notes.append(f"{file}: it is opened from the folder {os.getcwd()}; {near}, beside the system file, is another")
+    return notes
 
 
 def explain_image(report: Report, name: str, system: System) -> None:

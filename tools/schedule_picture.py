@@ -129,14 +129,15 @@ def png(line: Timeline, file: str) -> None:
     for place, tick, label in png_marks(line):
         axes.vlines(tick, place - 0.4, place + 0.4, color=MARK, linewidth=1)
         axes.text(tick, place, f" {label}", va="center", fontsize=8, family="monospace", clip_on=True)
-    axes.set_yticks(range(len(line.rows)), line.rows, family="monospace")
+    axes.set_yticks(range(len(line.rows)))
+    axes.set_yticklabels(line.rows, family="monospace")
     axes.set_xlim(line.first, line.last + 1)
     axes.set_ylim(len(line.rows) - 0.4, -0.6)
     axes.set_xlabel("tick")
     axes.grid(axis="x", color="#eeeeee")
     axes.set_axisbelow(True)
     axes.legend(handles=[pyplot.Rectangle((0, 0), 1, 1, color=color, label="on the processor" if name == "on" else name)
-                         for name, color in COLORS.items()], ncols=4, loc="lower right", bbox_to_anchor=(1, 1), frameon=False)
+                         for name, color in COLORS.items()], ncol=4, loc="lower right", bbox_to_anchor=(1, 1), frameon=False)
     figure.tight_layout()
     figure.savefig(file, dpi=100)
 

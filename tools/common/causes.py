@@ -48,6 +48,12 @@ def content_of(name: str, beside: Optional[str] = None) -> bytes:
     return content
 
 
+def another(name: str, beside: str) -> Optional[str]:
+    """Another file of this name, beside the file that names it: not the one that is opened."""
+    near = os.path.join(os.path.dirname(os.path.abspath(beside)), name)
+    return near if os.path.isfile(near) and not os.path.samefile(near, name) else None
+
+
 def unreadable(name: str, beside: Optional[str], error: Exception) -> str:
     """Why a file can't be read, and where a file of that name is."""
     reason = error.strerror if isinstance(error, OSError) and error.strerror else str(error)

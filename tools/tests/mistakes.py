@@ -2,6 +2,7 @@
 from __future__ import annotations
 
 import os
+import shutil
 import subprocess
 from typing import Callable, Dict, List, NamedTuple
 
@@ -28,6 +29,13 @@ class Mistake(NamedTuple):
 def built(folder: str) -> None:
     """An image by the repository's own way."""
     make([os.path.join(TOP, "examples", "build.sh"), folder], folder)
+
+
+def built_twice(folder: str) -> None:
+    """The image, and a copy of it in a folder below."""
+    built(folder)
+    os.mkdir(os.path.join(folder, "below"))
+    shutil.copy(os.path.join(folder, "image.elf"), os.path.join(folder, "below"))
 
 
 def object_file(folder: str) -> None:
@@ -66,6 +74,8 @@ MISTAKES = [
             EXPLAINED, ["E 11 system.toml", "system.toml:4: there is no field `realtime_memory`; `real_time_memory` is one"]),
     Mistake("names that are opened from another folder", {"system.toml": SYSTEM, "guest.c": SMALL}, built,
             ["explain.py", "FOLDER/system.toml"], ["E read image.elf", "there is FOLDER/image.elf: run the program in FOLDER"], ".."),
+    Mistake("an image that is opened from another folder", {"system.toml": SYSTEM, "guest.c": SMALL}, built_twice,
+            ["explain.py", "FOLDER/system.toml"], ["opened from the folder FOLDER/below; FOLDER/image.elf", "is another"], "below"),
     Mistake("a tab in a script", {"system.toml": WITH_SCRIPT, "script": "# rises\n100 line 5\n200\tline 5\n", "guest.c": SMALL}, built,
             EXPLAINED, ["E 30 script 3", "script:3: a tab; the parts stand apart by spaces"]),
     Mistake("a script that isn't sorted", {"system.toml": WITH_SCRIPT, "script": "200 line 5\n100 line 5\n", "guest.c": SMALL}, built,
