@@ -1,6 +1,6 @@
 #!/usr/bin/env bash
-# Tries the tools with a built program: their helps and errors, the examples' traces, mistakes made on purpose, and damaged files. What
-# isn't installed is skipped with a line.
+# Tries the tools with a built program: their helps and errors, the examples' traces, damaged files, mistakes made on purpose, and the
+# guest that docs/GUESTS_IN_C.md writes. What isn't installed is skipped with a line.
 # usage: tools/check.sh PROGRAM
 set -euo pipefail
 if [ $# != 1 ] || [ ! -x "$1" ]; then
@@ -23,12 +23,13 @@ python3 tools/tests/check_traces.py "$program"
 python3 tools/tests/check_explain.py "$program"
 
 for tool in make ld ar nm addr2line objdump; do
-    command -v "$tool" > /dev/null || { skip "no $tool: the mistakes that are made on purpose"; exit 0; }
+    command -v "$tool" > /dev/null || { skip "no $tool: the guests in C"; exit 0; }
 done
 object=$(mktemp)
 trap 'rm -f "$object"' EXIT
 if echo 'int x;' | gcc -m32 -march=i386 -c -x c - -o "$object" 2> /dev/null; then
     python3 tools/tests/check_mistakes.py "$program"
+    python3 tools/tests/check_page.py "$program"
 else
-    skip "no gcc -m32: the mistakes that are made on purpose"
+    skip "no gcc -m32: the guests in C"
 fi
