@@ -1,4 +1,5 @@
-"""Names, source lines and instructions of addresses, by binutils from an ELF file that isn't stripped."""
+"""Names, source lines and instructions of addresses, by binutils from an ELF file that isn't stripped. Without binutils there are
+none."""
 from __future__ import annotations
 
 import bisect
@@ -68,7 +69,7 @@ def names_of(file: str) -> Iterable[Tuple[int, str]]:
     if not os.path.isfile(file):
         command.fail(f"{file}: no such file")
     if not shutil.which("nm"):
-        command.fail("names need `nm`, of binutils")
+        return
     for line in output(["nm", file]):
         words = line.split()
         # Names of code; a name of the linker's script or of data is no place of code.
