@@ -13,6 +13,3 @@ pub use answer::rtlinux;
 pub use last::Last;
 pub use laws::shows_solution;
 pub use status::{Code, Device, Status};
-
-#[cfg(test)]
-mod tests;

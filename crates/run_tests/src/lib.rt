@@ -1,0 +1,23 @@
+//! Tests of whole runs: the worked rows, over the top call with a store and a sink in memory, and the store and the sink of the host.
+//!
+//! A worked row is a line of text, its fields apart by ` | `. `calls.rt` says how a field is read.
+#![tactic(auto)]
+
+#[cfg(test)]
+mod calls;
+#[cfg(test)]
+mod commands;
+#[cfg(test)]
+mod failures;
+#[cfg(test)]
+mod flat_images;
+#[cfg(test)]
+mod host;
+#[cfg(test)]
+mod images;
+#[cfg(test)]
+mod scripts;
+#[cfg(test)]
+mod system_files;
+#[cfg(test)]
+mod systems;
