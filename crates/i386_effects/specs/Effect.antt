@@ -21,6 +21,7 @@ pub record Effect (D : Type 0) : Type 0 where
   pub registers : Registers
   pub bus : State D
 
+-- the same by its three parts
 abbrev pub came_to : {D : Type 0} → Stepped → Registers → State D → Effect D
 came_to stepped regs st = record { stepped = stepped; registers = regs; bus = st }
 

@@ -74,8 +74,8 @@ unit_by fetched ports regs st Short = unchanged (Outside Fetch (onward regs.eip 
 abbrev pub fetched_at : ℕ → Side → List ℕ
 fetched_at eip side = bytes_from side eip 15
 
--- What bytes spell is computed here. That it is what the relation of spellings says, a form, its length, Short or Undefined
--- exactly where each is due, is the law `decided` of the crate that decodes.
+-- What bytes spell is computed here. That this is what the relation of spellings says, a form, Short or Undefined exactly where
+-- each is due, is the law `decided` of i386_decode.
 unfoldable pub unit : {D : Type 0} → Ports D → Registers → State D → Effect D
 unit ports regs st = unit_by (length (fetched_at regs.eip st.side)) ports regs st (decode_of (fetched_at regs.eip st.side))
 

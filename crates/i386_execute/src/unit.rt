@@ -136,6 +136,8 @@ fn perform<B: Bus>(form: &Form, length: u8, regs: &mut Registers, bus: &mut B) -
 }
 
 /// Performs the instruction at EIP. What isn't performed changes neither the registers nor the bus.
+// (a function of its own: where it is inlined into a loop over ticks, that loop fills its locals in each of them)
+#[inline(never)]
 #[tactic(auto, unfolding(crate::specs::Unit::unit))]
 pub fn step<B: Bus>(regs: &mut Registers, bus: &mut B) -> Stepped
     ensures effect { came_to result regs.new (B.state bus.new) ≡ unit B.ports regs.old (B.state bus.old) }
