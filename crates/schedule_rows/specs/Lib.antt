@@ -1,5 +1,10 @@
 pub mod Machines
 pub mod Programs
+pub mod BreachRows
 pub mod GuestRows
-pub mod RealTimeRows
-pub mod HardwareRows
+pub mod ThreadRows
+pub mod VersionRows
+pub mod CallRows
+pub mod FaultRows
+pub mod OneShotRows
+pub mod AcknowledgementRows

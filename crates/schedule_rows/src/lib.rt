@@ -9,6 +9,6 @@ mod guest;
 mod hardware;
 mod real_time;
 
-pub use guest::guest_rows;
-pub use hardware::hardware_rows;
-pub use real_time::real_time_rows;
+pub use guest::{breach_rows, guest_rows};
+pub use hardware::{acknowledgement_rows, one_shot_rows};
+pub use real_time::{call_rows, fault_rows, thread_rows, version_rows};

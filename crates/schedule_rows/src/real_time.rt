@@ -1,24 +1,39 @@
 // The real-time side beside guests.
 
-ghost use Rattle.schedule_rows.specs.RealTimeRows.{BesideBreach, BesideIdle, BesideTimer, BreachLine, ByArrival, Calls, DivideFault, EarliestDue, EqualPriorities, IntFault, MemoryFault, OpcodeFault, Owner, Periodic, PortFault, PrivilegedFault, Replies};
+ghost use Rattle.schedule_rows.specs.CallRows.{Calls, Owner, Replies};
+ghost use Rattle.schedule_rows.specs.FaultRows.{DivideFault, IntFault, MemoryFault, OpcodeFault, PortFault, PrivilegedFault};
+ghost use Rattle.schedule_rows.specs.ThreadRows.{BesideBreach, BesideIdle, BesideTimer, BreachLine, EqualPriorities, Periodic};
+ghost use Rattle.schedule_rows.specs.VersionRows.{ByArrival, EarliestDue};
 
-/// The real-time side beside guests, row by row.
-pub fn real_time_rows()
+/// Threads beside guests, row by row.
+pub fn thread_rows()
     ensures periodic { Periodic }
     ensures beside_idle { BesideIdle }
     ensures beside_timer { BesideTimer }
     ensures equal_priorities { EqualPriorities }
     ensures beside_breach { BesideBreach }
+    ensures breach_line { BreachLine }
+{}
+
+/// Which of two threads of equal priority goes first, by version.
+pub fn version_rows()
     ensures by_arrival { ByArrival }
     ensures earliest_due { EarliestDue }
+{}
+
+/// Handlers of lines and of FIFOs, and the calls of a guest, row by row.
+pub fn call_rows()
     ensures owner { Owner }
     ensures replies { Replies }
+    ensures calls { Calls }
+{}
+
+/// Faults of an init, row by row.
+pub fn fault_rows()
     ensures divide_fault { DivideFault }
     ensures privileged_fault { PrivilegedFault }
     ensures memory_fault { MemoryFault }
     ensures int_fault { IntFault }
     ensures opcode_fault { OpcodeFault }
     ensures port_fault { PortFault }
-    ensures calls { Calls }
-    ensures breach_line { BreachLine }
 {}

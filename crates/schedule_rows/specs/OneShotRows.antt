@@ -1,19 +1,9 @@
--- The lines of the hardware beside both machines.
+-- When the one-shot is set: the lines of the hardware.
 use Rattle.std.specs.Prelude.{◌≡◌, [], ◌∷◌, Some}
-use Rattle.device_script.specs.declared.event.Event.TheVariants.{Line}
-use Rattle.line_kinds.specs.declared.kinds.GLine.TheVariants.{Enter}
 use Rattle.line_kinds.specs.declared.kinds.HLine.TheVariants.{Edge, Ack, Set}
-use Rattle.line_kinds.specs.declared.kinds.RLine.TheVariants.{On}
-use Rattle.line_kinds.specs.declared.kinds.Who.TheVariants.{Guest}
 use Rattle.hardware_lines.specs.Hardware.{first_hardware, with_set}
-use Rattle.line_kinds.specs.declared.kinds.Line.TheVariants.{R, G, H}
-use Rattle.schedule_rows.specs.Machines.{module_of, no_module, h_of, output_of}
-use Rattle.schedule_rows.specs.Programs.{idle, timer_guest, pending_guest, periodic_module, long_module, nearer_module, arrival_module, owner_module}
-
--- Each edge is latched and acknowledged in its tick
-abbrev pub PendingEdges : Type 0
-PendingEdges = h_of pending_guest no_module ((3, Line 5) ∷ (4, Line 5) ∷ []) 13
-    ≡ (3, Edge 5) ∷ (3, Ack 5) ∷ (4, Edge 5) ∷ (4, Ack 5) ∷ []
+use Rattle.schedule_rows.specs.Machines.{module_of, no_module, h_of}
+use Rattle.schedule_rows.specs.Programs.{idle, timer_guest, periodic_module, long_module, nearer_module}
 
 -- The guest's timer of 3 ticks, set in tick 3: each rise is acknowledged, and the one-shot set for the next
 abbrev pub GuestTimer : Type 0
@@ -40,20 +30,6 @@ BothTimers = h_of timer_guest (module_of 1 long_module) [] 24
 abbrev pub EqualShots : Type 0
 EqualShots = h_of idle (module_of 1 nearer_module) [] 38
     ≡ (10, Set 47) ∷ (34, Edge 0) ∷ (34, Ack 0) ∷ (34, Set 1) ∷ (35, Edge 0) ∷ (35, Ack 0) ∷ []
-
--- While an init runs, the latched rise waits: its acknowledgement is that of the first tick that drains
-abbrev pub LateAck : Type 0
-LateAck = h_of idle (module_of 1 arrival_module) [] 24 ≡ (10, Set 3) ∷ (12, Edge 0) ∷ (18, Ack 0) ∷ []
-
--- Line 9 is acknowledged in the tick in which its owner changes, and then for its handler
-abbrev pub OwnerAck : Type 0
-OwnerAck = h_of idle (module_of 1 owner_module) ((2, Line 9) ∷ (8, Line 9) ∷ []) 10
-    ≡ (2, Edge 9) ∷ (4, Ack 9) ∷ (8, Edge 9) ∷ (8, Ack 9) ∷ []
-
--- All lines in one order: a tick's real-time lines, then the hardware's, then the guest's
-abbrev pub InOrder : Type 0
-InOrder = output_of pending_guest no_module ((3, Line 5) ∷ (4, Line 5) ∷ []) 13
-    ≡ (1, R (On Guest)) ∷ (3, H (Edge 5)) ∷ (3, H (Ack 5)) ∷ (4, H (Edge 5)) ∷ (4, H (Ack 5)) ∷ (10, G (Enter 37)) ∷ []
 
 -- The chain of a far due: set in tick 20 for tick 32,789 it rises in tick 32,788, and set then it rises in the due tick
 abbrev pub Chain : Type 0
