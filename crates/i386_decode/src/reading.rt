@@ -304,7 +304,15 @@ fn read_entry(
         Entry::One(row) => if modrm_count(row.modrm) == 0 {
             read_bare(row, narrow, repeat, used, bytes, form)
         } else {
-            read_row(row, narrow, repeat, used, byte_at(bytes, used, LEAST_MODRM), bytes, form)
+            read_row(
+                row,
+                narrow,
+                repeat,
+                used,
+                byte_at(bytes, used, LEAST_MODRM),
+                bytes,
+                form,
+            )
         },
         Entry::Many(group) => {
             let modrm = byte_at(bytes, used, least_in(*group));
