@@ -102,7 +102,7 @@ came_to t e b (Breaches breach) = breached (breach_kind breach) b
 abbrev pub instruction : ℕ → Bare → UnitOutcome
 instruction t b =
     let e = unit_at Guest b.registers b.side b.com1 in
-    came_to t e b (answer_to b.registers.eip (address_behind b.registers b.side) e.stepped)
+    came_to t e b (answer_to b.registers.eip (address_behind b.registers b.side) e.answer)
 
 -- the lowest line that is asked and enabled, where it may be entered: the flag is set, and no shadow stands
 abbrev pub line_to_enter : Bare → Option ℕ

@@ -46,9 +46,6 @@ if_carried h false true e x y x' y' k l = cc
 abbrev commit_with : {D E : Type 0} → (E → D) → Commit E → Commit D
 commit_with g c = record { outside = c.outside; registers = c.registers; bus = with_devices g c.bus }
 
-abbrev iteration_with : {D E : Type 0} → (E → D) → IterationEffect E → IterationEffect D
-iteration_with g e = record { iteration = e.iteration; registers = e.registers; bus = with_devices g e.bus }
-
 commit : {D E : Type 0} (g : E → D) (regs after : Registers) (st : State E) (writes : List Write) (o : Option ℕ)
     → commit_unless regs (with_devices g st) after writes o ≡ commit_with g (commit_unless regs st after writes o)
 commit g regs after st writes None = refl
@@ -88,17 +85,17 @@ forms g p q form n regs st k =
 -- ---- string instructions, which reach no port
 
 string_loaded : {D E : Type 0} (g : E → D) (form : Form) (regs : Registers) (st : State E) (o : Result (List ℕ) ℕ)
-    → strings.after_loads form regs (with_devices g st) o ≡ iteration_with g (strings.after_loads form regs st o)
+    → strings.after_loads form regs (with_devices g st) o ≡ effect_with g (strings.after_loads form regs st o)
 string_loaded g form regs st (Err at) = refl
 string_loaded g form regs st (Ok words) =
     let writes = string_writes form.op form.width regs words in
     ap (ended form) (commit g regs (iterated form regs words) st writes (first_outside_store st.side writes))
 
-iterations : {D E : Type 0} (g : E → D) (form : Form) (regs : Registers) (st : State E) → iteration form regs (with_devices g st) ≡ iteration_with g (iteration form regs st)
+iterations : {D E : Type 0} (g : E → D) (form : Form) (regs : Registers) (st : State E) → iteration form regs (with_devices g st) ≡ effect_with g (iteration form regs st)
 unfolding iteration
 iterations g form regs st =
     let ends = repeats form.repeat && (ecx regs == 0) in
-    if_carried (iteration_with g) ends ends refl _ _ _ _ refl (string_loaded g form regs st (all_loaded st.side (string_loads form.op form.width regs)))
+    if_carried (effect_with g) ends ends refl _ _ _ _ refl (string_loaded g form regs st (all_loaded st.side (string_loads form.op form.width regs)))
 
 -- ---- units
 

@@ -2,7 +2,7 @@
 use Rattle.std.specs.Prelude.{◌≡◌, ℕ, Option, if◌then◌else◌}
 use Rattle.cpu_state.specs.Bus.{State}
 use Rattle.cpu_state.specs.declared.registers.Registers.{Registers}
-use Rattle.i386_effects.specs.Effect.{Effect}
+use Rattle.i386_effects.specs.Effect.{EffectOf}
 use Rattle.i386_execute.specs.Unit.{unit}
 use Rattle.line_sets.specs.LineSet.{with_line}
 use Rattle.pic_8259.specs.Controllers.{risen}
@@ -12,17 +12,14 @@ use Rattle.port_map.specs.Serial.{Serial, serial_ports, rose}
 use Rattle.port_board.specs.Board.{serial_of, accessed, ports_of, rises_of}
 use Rattle.port_board.specs.OneShot.{OneShot}
 use Rattle.port_board.specs.declared.board.Board.{Board}
-use Rattle.breach_monitor.specs.RealTimeUnit.{Outcome, real_time}
+use Rattle.breach_monitor.specs.RealTimeUnit.{real_time}
 
--- other devices in the place of those of a state, an effect and an outcome
+-- other devices in the place of those of a state and of an effect
 abbrev pub with_devices : {D E : Type 0} → (D → E) → State D → State E
 with_devices f st = record { side = st.side; devices = f st.devices }
 
-abbrev pub effect_with : {D E : Type 0} → (D → E) → Effect D → Effect E
-effect_with f e = record { stepped = e.stepped; registers = e.registers; bus = with_devices f e.bus }
-
-abbrev pub outcome_with : {D E : Type 0} → (D → E) → Outcome D → Outcome E
-outcome_with f o = record { answer = o.answer; registers = o.registers; bus = with_devices f o.bus }
+abbrev pub effect_with : {A D E : Type 0} → (D → E) → EffectOf A D → EffectOf A E
+effect_with f e = record { answer = e.answer; registers = e.registers; bus = with_devices f e.bus }
 
 -- the side with the owner's serial port, which is all that the owner sees of the board
 abbrev pub serial_state : Owner → State Board → State Serial
@@ -46,7 +43,7 @@ IsFromSerial owner =
 -- the same of a unit of a real-time activity
 abbrev pub IsRealTimeOfSerial : Owner → Type 0
 IsRealTimeOfSerial owner =
-    (regs : Registers) (st : State Board) → outcome_with (serial_of owner) (real_time (ports_of owner) regs st) ≡ real_time (serial_ports owner) regs (serial_state owner st)
+    (regs : Registers) (st : State Board) → effect_with (serial_of owner) (real_time (ports_of owner) regs st) ≡ real_time (serial_ports owner) regs (serial_state owner st)
 
 abbrev pub RealTimeKeepsOthers : Owner → Type 0
 RealTimeKeepsOthers owner =
@@ -54,7 +51,7 @@ RealTimeKeepsOthers owner =
 
 abbrev pub IsRealTimeFromSerial : Owner → Type 0
 IsRealTimeFromSerial owner =
-    (regs : Registers) (st : State Board) → real_time (ports_of owner) regs st ≡ outcome_with (λ s. accessed owner s st.devices) (real_time (serial_ports owner) regs (serial_state owner st))
+    (regs : Registers) (st : State Board) → real_time (ports_of owner) regs st ≡ effect_with (λ s. accessed owner s st.devices) (real_time (serial_ports owner) regs (serial_state owner st))
 
 -- what an access of an owner, which leaves the owner's serial port so, leaves of everything else
 pub record LeavesOthers (owner : Owner) (s : Serial) (b after : Board) : Type 0 where

@@ -5,7 +5,7 @@ use Rattle.cpu_state.specs.Bus.{State, Ports}
 use Rattle.cpu_state.specs.declared.registers.Privileged.{Privileged as PrivilegedUse}
 use Rattle.cpu_state.specs.declared.registers.Privileged.TheVariants.{Cli, Sti, Iret, Pushf, Popf, Hlt}
 use Rattle.cpu_state.specs.declared.registers.Registers.{Registers}
-use Rattle.i386_effects.specs.Effect.{Effect}
+use Rattle.i386_effects.specs.Effect.{Effect, EffectOf}
 use Rattle.i386_execute.specs.OwnFlag.{flag_unit}
 use Rattle.i386_execute.specs.Unit.{unit, address_behind}
 use Rattle.i386_effects.specs.declared.stepped.Stepped.{Stepped}
@@ -15,11 +15,9 @@ use Rattle.line_kinds.specs.declared.kinds.FaultKind.TheVariants.{Divide, Opcode
 use Rattle.breach_monitor.specs.declared.real_time.RealTimeUnit.{RealTimeUnit}
 use Rattle.breach_monitor.specs.declared.real_time.RealTimeUnit.TheVariants.{Next, Gate, Return, Fault as Faults}
 
--- what a unit came to, with the registers and what the bus reaches after it
-pub record Outcome (D : Type 0) : Type 0 where
-  pub answer : RealTimeUnit
-  pub registers : Registers
-  pub bus : State D
+-- the effect of a unit of a real-time activity
+abbrev pub Outcome : Type 0 → Type 0
+Outcome D = EffectOf RealTimeUnit D
 
 -- an answer that leaves everything as it is
 abbrev pub answered : {D : Type 0} → RealTimeUnit → Registers → State D → Outcome D
@@ -46,7 +44,7 @@ used_by regs st Performed e = performed e
 used_by regs st stepped e = faulted Memory regs st
 
 abbrev pub on_flag : {D : Type 0} → Ports D → PrivilegedUse → ℕ → Registers → State D → Outcome D
-on_flag ports kind n regs st = let e = flag_unit ports kind n regs st in used_by regs st e.stepped e
+on_flag ports kind n regs st = let e = flag_unit ports kind n regs st in used_by regs st e.answer e
 
 -- IRET and HLT are nobody's
 abbrev pub used : {D : Type 0} → Ports D → PrivilegedUse → ℕ → Registers → State D → Outcome D
@@ -66,4 +64,4 @@ came_to ports regs st (Outside access at) e = faulted Memory regs st
 came_to ports regs st (OwnedPort port) e = faulted Port regs st
 
 unfoldable pub real_time : {D : Type 0} → Ports D → Registers → State D → Outcome D
-real_time ports regs st = let e = unit ports regs st in came_to ports regs st e.stepped e
+real_time ports regs st = let e = unit ports regs st in came_to ports regs st e.answer e

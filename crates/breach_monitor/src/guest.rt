@@ -60,7 +60,7 @@ fn interrupted(vector: u8, next: u32) -> GuestUnit
 pub fn guest_unit(regs: &mut Registers, bus: &mut GuestBus<'_>) -> GuestUnit
     ensures same_bytes { bus.new.bytes.ghost_name ≡ bus.old.bytes.ghost_name }
     ensures same_board { bus.new.board.ghost_name ≡ bus.old.board.ghost_name }
-    ensures answer { let st = bus_state bus.old.first bus.old.bytes.now bus.old.board.now in result ≡ answer_to regs.old.eip (address_behind regs.old st.side) (unit (ports_of owner.Guest) regs.old st).stepped }
+    ensures answer { let st = bus_state bus.old.first bus.old.bytes.now bus.old.board.now in result ≡ answer_to regs.old.eip (address_behind regs.old st.side) (unit (ports_of owner.Guest) regs.old st).answer }
     ensures registers { regs.new ≡ (unit (ports_of owner.Guest) regs.old (bus_state bus.old.first bus.old.bytes.now bus.old.board.now)).registers }
     ensures state { bus_state bus.new.first bus.new.bytes.now bus.new.board.now ≡ (unit (ports_of owner.Guest) regs.old (bus_state bus.old.first bus.old.bytes.now bus.old.board.now)).bus }
     ensures unchanged { result ≢ GuestUnit.Next → (regs.new ≡ regs.old) × (bus.new.bytes.now ≡ bus.old.bytes.now) × (bus.new.board.now ≡ bus.old.board.now) }
@@ -83,7 +83,7 @@ pub fn guest_unit(regs: &mut Registers, bus: &mut GuestBus<'_>) -> GuestUnit
 
 /// One unit of the guest over a board and bytes that are lent, of which the first stands at address 0.
 pub fn guest_unit_on(regs: &mut Registers, memory: &mut [u8], board: &mut Board) -> GuestUnit
-    ensures answer { let st = bus_state 0 memory.old board.old in result ≡ answer_to regs.old.eip (address_behind regs.old st.side) (unit (ports_of owner.Guest) regs.old st).stepped }
+    ensures answer { let st = bus_state 0 memory.old board.old in result ≡ answer_to regs.old.eip (address_behind regs.old st.side) (unit (ports_of owner.Guest) regs.old st).answer }
     ensures registers { regs.new ≡ (unit (ports_of owner.Guest) regs.old (bus_state 0 memory.old board.old)).registers }
     ensures state { bus_state 0 memory.new board.new ≡ (unit (ports_of owner.Guest) regs.old (bus_state 0 memory.old board.old)).bus }
     ensures unchanged { result ≢ GuestUnit.Next → (regs.new ≡ regs.old) × (memory.new ≡ memory.old) × (board.new ≡ board.old) }

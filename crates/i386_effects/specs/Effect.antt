@@ -15,15 +15,19 @@ use Rattle.i386_effects.specs.Change as change
 use Rattle.i386_effects.specs.declared.stepped.Stepped.{Stepped}
 use Rattle.i386_effects.specs.declared.stepped.Stepped.TheVariants.{Next, Trap, Interrupt, Privileged, Outside, Port}
 
--- what a unit came to, with the registers and what the bus reaches after it
-pub record Effect (D : Type 0) : Type 0 where
-  pub stepped : Stepped
+-- what something that was performed came to, as an answer of its own kind, with the registers and what the bus reaches after it
+pub record EffectOf (A : Type 0) (D : Type 0) : Type 0 where
+  pub answer : A
   pub registers : Registers
   pub bus : State D
 
+-- the effect of a unit
+abbrev pub Effect : Type 0 → Type 0
+Effect D = EffectOf Stepped D
+
 -- the same by its three parts
 abbrev pub came_to : {D : Type 0} → Stepped → Registers → State D → Effect D
-came_to stepped regs st = record { stepped = stepped; registers = regs; bus = st }
+came_to stepped regs st = record { answer = stepped; registers = regs; bus = st }
 
 -- an outcome that changes nothing
 abbrev pub unchanged : {D : Type 0} → Stepped → Registers → State D → Effect D
@@ -52,7 +56,7 @@ stored_or None = Next
 stored_or (Some at) = Outside Store at
 
 abbrev pub written : {D : Type 0} → Commit D → Effect D
-written c = record { stepped = stored_or c.outside; registers = c.registers; bus = c.bus }
+written c = record { answer = stored_or c.outside; registers = c.registers; bus = c.bus }
 
 -- the registers with the answer of a port in AL, AX or EAX
 abbrev pub received : Width → ℕ → Registers → Registers
@@ -63,14 +67,14 @@ abbrev pub changed : {D : Type 0} → Ports D → Registers → State D → Chan
 changed ports regs st (change.Done after writes) = written (committed regs st after writes)
 changed ports regs st (change.In after port w) =
     if all_mine ports port (size w) then record {
-      stepped = Next;
+      answer = Next;
       registers = received w (ports.answer st.devices port (size w)) after;
       bus = record st { devices = ports.after_in st.devices port (size w) };
     }
     else unchanged (Port port) regs st
 changed ports regs st (change.Out after port w value) =
     if all_mine ports port (size w) then record {
-      stepped = Next;
+      answer = Next;
       registers = after;
       bus = record st { devices = ports.after_out st.devices port (size w) value };
     }
@@ -94,4 +98,4 @@ KeepsIfOutside regs st c = c.outside ≢ None → (c.registers ≡ regs) × (c.b
 
 -- what isn't performed changes nothing
 abbrev pub KeepsUnlessPerformed : {D : Type 0} → Registers → State D → Effect D → Type 0
-KeepsUnlessPerformed regs st e = e.stepped ≢ Next → (e.registers ≡ regs) × (e.bus ≡ st)
+KeepsUnlessPerformed regs st e = e.answer ≢ Next → (e.registers ≡ regs) × (e.bus ≡ st)

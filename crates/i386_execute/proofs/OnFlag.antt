@@ -13,7 +13,7 @@ use Rattle.i386_effects.specs.declared.accesses.Write.{Write}
 use Rattle.i386_execute.specs.OwnFlag.{is_on_flag, flag_loads, flag_change, flag_unit, IsNextOrOutside}
 use Rattle.i386_execute.specs.Unit.{moved_on}
 
-of_commit : {D : Type 0} (regs : Registers) (st : State D) (after : Registers) (writes : List Write) (o : Option ℕ) → IsNextOrOutside (written (commit_unless regs st after writes o)).stepped
+of_commit : {D : Type 0} (regs : Registers) (st : State D) (after : Registers) (writes : List Write) (o : Option ℕ) → IsNextOrOutside (written (commit_unless regs st after writes o)).answer
 of_commit regs st after writes (Some at) = tt
 of_commit regs st after writes None = tt
 
@@ -25,7 +25,7 @@ IsDone (change.Trap vector) = ⊥
 IsDone (change.Interrupt vector) = ⊥
 IsDone (change.Privileged k n) = ⊥
 
-of_done : {D : Type 0} (ports : Ports D) (regs : Registers) (st : State D) (c : Change) → IsDone c → IsNextOrOutside (changed ports regs st c).stepped
+of_done : {D : Type 0} (ports : Ports D) (regs : Registers) (st : State D) (c : Change) → IsDone c → IsNextOrOutside (changed ports regs st c).answer
 of_done ports regs st (change.Done after writes) d = of_commit regs st after writes (first_outside_store st.side writes)
 of_done ports regs st (change.In after port w) d = absurd d
 of_done ports regs st (change.Out after port w value) d = absurd d
@@ -42,10 +42,10 @@ flag_is_done kind.Popf n r ws h = tt
 flag_is_done kind.Iret n r ws h = cc
 flag_is_done kind.Hlt n r ws h = cc
 
-of_loads : {D : Type 0} (ports : Ports D) (k : Privileged) (n : ℕ) (r regs : Registers) (st : State D) (o : Result (List ℕ) ℕ) → is_on_flag k ≡ true → IsNextOrOutside (after_loads ports regs st (flag_change k n r) o).stepped
+of_loads : {D : Type 0} (ports : Ports D) (k : Privileged) (n : ℕ) (r regs : Registers) (st : State D) (o : Result (List ℕ) ℕ) → is_on_flag k ≡ true → IsNextOrOutside (after_loads ports regs st (flag_change k n r) o).answer
 of_loads ports k n r regs st (Err at) h = tt
 of_loads ports k n r regs st (Ok ws) h = of_done ports regs st (flag_change k n r ws) (flag_is_done k n r ws h)
 
-pub answered : {D : Type 0} (ports : Ports D) (k : Privileged) (n : ℕ) (regs : Registers) (st : State D) → is_on_flag k ≡ true → IsNextOrOutside (flag_unit ports k n regs st).stepped
+pub answered : {D : Type 0} (ports : Ports D) (k : Privileged) (n : ℕ) (regs : Registers) (st : State D) → is_on_flag k ≡ true → IsNextOrOutside (flag_unit ports k n regs st).answer
 unfolding flag_unit
 answered ports k n regs st h = of_loads ports k n (moved_on n regs) regs st (all_loaded st.side (flag_loads k (moved_on n regs))) h

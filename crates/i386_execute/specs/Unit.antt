@@ -58,7 +58,7 @@ registers_on Finished n regs = moved_on n regs
 registers_on (OutsideAccess kind at) n regs = regs
 
 abbrev pub string_unit : {D : Type 0} → ℕ → IterationEffect D → Effect D
-string_unit n e = record { stepped = stepped_on e.iteration; registers = registers_on e.iteration n e.registers; bus = e.bus }
+string_unit n e = record { answer = stepped_on e.answer; registers = registers_on e.answer n e.registers; bus = e.bus }
 
 -- ---- the unit at EIP
 

@@ -15,7 +15,7 @@ use Rattle.i386_strings.specs.declared.iteration.Iteration.TheVariants.{More, Fi
 
 -- what is kept where an access lies outside
 abbrev pub KeepsOutside : {D : Type 0} → Registers → State D → IterationEffect D → Type 0
-KeepsOutside regs st e = StaysOutside e.iteration ((e.registers ≡ regs) × (e.bus ≡ st))
+KeepsOutside regs st e = StaysOutside e.answer ((e.registers ≡ regs) × (e.bus ≡ st))
 
 performed : (same : Type 0) (last : Bool) → StaysOutside (if last then Finished else More) same
 performed same true = tt

@@ -15,7 +15,7 @@ use Rattle.i386_decode.specs.declared.form.Repeat.{Repeat}
 use Rattle.i386_decode.specs.declared.form.Repeat.TheVariants.{Once, WhileEqual, WhileUnequal}
 use Rattle.i386_alu.specs.Binary.{binary_of}
 use Rattle.i386_effects.specs.Accesses.{all_loaded}
-use Rattle.i386_effects.specs.Effect.{Commit, committed}
+use Rattle.i386_effects.specs.Effect.{Commit, EffectOf, committed}
 use Rattle.i386_effects.specs.Operands.{part, with_part}
 use Rattle.i386_effects.specs.declared.accesses.Touch.{Touch}
 use Rattle.i386_effects.specs.declared.accesses.Write.{Write}
@@ -110,27 +110,25 @@ is_decided WhileUnequal zero = zero
 unfoldable pub is_last : Form → Registers → Bool
 is_last f after = not (repeats f.repeat) || (ecx after == 0) || (compares f.op && is_decided f.repeat after.eflags.zero)
 
--- what an iteration came to, with the registers and what the bus reaches after it
-pub record IterationEffect (D : Type 0) : Type 0 where
-  pub iteration : Iteration
-  pub registers : Registers
-  pub bus : State D
+-- the effect of an iteration
+abbrev pub IterationEffect : Type 0 → Type 0
+IterationEffect D = EffectOf Iteration D
 
 abbrev pub ended_by : Option ℕ → Bool → Iteration
 ended_by (Some at) last = Outside Store at
 ended_by None last = if last then Finished else More
 
 abbrev pub ended : {D : Type 0} → Form → Commit D → IterationEffect D
-ended f c = record { iteration = ended_by c.outside (is_last f c.registers); registers = c.registers; bus = c.bus }
+ended f c = record { answer = ended_by c.outside (is_last f c.registers); registers = c.registers; bus = c.bus }
 
 abbrev pub after_loads : {D : Type 0} → Form → Registers → State D → Result (List ℕ) ℕ → IterationEffect D
-after_loads f regs st (Err at) = record { iteration = Outside Load at; registers = regs; bus = st }
+after_loads f regs st (Err at) = record { answer = Outside Load at; registers = regs; bus = st }
 after_loads f regs st (Ok ws) = ended f (committed regs st (iterated f regs ws) (string_writes f.op f.width regs ws))
 
 -- with a repeat prefix and ECX 0 there is nothing but the end
 unfoldable pub iteration : {D : Type 0} → Form → Registers → State D → IterationEffect D
 iteration f regs st =
-    if repeats f.repeat && (ecx regs == 0) then record { iteration = Finished; registers = regs; bus = st }
+    if repeats f.repeat && (ecx regs == 0) then record { answer = Finished; registers = regs; bus = st }
     else after_loads f regs st (all_loaded st.side (string_loads f.op f.width regs))
 
 -- nothing changes where an access lies outside

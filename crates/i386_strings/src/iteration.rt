@@ -157,7 +157,7 @@ fn ended(form: &Form, regs: &Registers) -> Iteration
 #[tactic(auto, unfolding(crate::specs::Iteration::iterated))]
 fn move_word<B: Bus>(form: &Form, regs: &mut Registers, bus: &mut B) -> Iteration
     requires { form.now.op ≡ Op.Movs }
-    ensures effect { record { iteration = result; registers = regs.new; bus = B.state bus.new } ≡ after_loads form.now regs.old (B.state bus.old) (all_loaded (B.state bus.old).side (string_loads Op.Movs form.now.width regs.old)) }
+    ensures effect { record { answer = result; registers = regs.new; bus = B.state bus.new } ≡ after_loads form.now regs.old (B.state bus.old) (all_loaded (B.state bus.old).side (string_loads Op.Movs form.now.width regs.old)) }
     ensures lenders { B.lenders bus.new ≡ B.lenders bus.old }
 {
     let source = regs.general[ESI];
@@ -177,7 +177,7 @@ fn move_word<B: Bus>(form: &Form, regs: &mut Registers, bus: &mut B) -> Iteratio
 #[tactic(auto, unfolding(crate::specs::Iteration::iterated))]
 fn compare_words<B: Bus>(form: &Form, regs: &mut Registers, bus: &mut B) -> Iteration
     requires { form.now.op ≡ Op.Cmps }
-    ensures effect { record { iteration = result; registers = regs.new; bus = B.state bus.new } ≡ after_loads form.now regs.old (B.state bus.old) (all_loaded (B.state bus.old).side (string_loads Op.Cmps form.now.width regs.old)) }
+    ensures effect { record { answer = result; registers = regs.new; bus = B.state bus.new } ≡ after_loads form.now regs.old (B.state bus.old) (all_loaded (B.state bus.old).side (string_loads Op.Cmps form.now.width regs.old)) }
     ensures lenders { B.lenders bus.new ≡ B.lenders bus.old }
 {
     let source = regs.general[ESI];
@@ -200,7 +200,7 @@ fn compare_words<B: Bus>(form: &Form, regs: &mut Registers, bus: &mut B) -> Iter
 #[tactic(auto, unfolding(crate::specs::Iteration::iterated))]
 fn store_word<B: Bus>(form: &Form, regs: &mut Registers, bus: &mut B) -> Iteration
     requires { form.now.op ≡ Op.Stos }
-    ensures effect { record { iteration = result; registers = regs.new; bus = B.state bus.new } ≡ after_loads form.now regs.old (B.state bus.old) (all_loaded (B.state bus.old).side (string_loads Op.Stos form.now.width regs.old)) }
+    ensures effect { record { answer = result; registers = regs.new; bus = B.state bus.new } ≡ after_loads form.now regs.old (B.state bus.old) (all_loaded (B.state bus.old).side (string_loads Op.Stos form.now.width regs.old)) }
     ensures lenders { B.lenders bus.new ≡ B.lenders bus.old }
 {
     let target = regs.general[EDI];
@@ -216,7 +216,7 @@ fn store_word<B: Bus>(form: &Form, regs: &mut Registers, bus: &mut B) -> Iterati
 #[tactic(auto, unfolding(crate::specs::Iteration::iterated))]
 fn load_word<B: Bus>(form: &Form, regs: &mut Registers, bus: &mut B) -> Iteration
     requires { form.now.op ≡ Op.Lods }
-    ensures effect { record { iteration = result; registers = regs.new; bus = B.state bus.new } ≡ after_loads form.now regs.old (B.state bus.old) (all_loaded (B.state bus.old).side (string_loads Op.Lods form.now.width regs.old)) }
+    ensures effect { record { answer = result; registers = regs.new; bus = B.state bus.new } ≡ after_loads form.now regs.old (B.state bus.old) (all_loaded (B.state bus.old).side (string_loads Op.Lods form.now.width regs.old)) }
     ensures lenders { B.lenders bus.new ≡ B.lenders bus.old }
 {
     let source = regs.general[ESI];
@@ -233,7 +233,7 @@ fn load_word<B: Bus>(form: &Form, regs: &mut Registers, bus: &mut B) -> Iteratio
 #[tactic(auto, unfolding(crate::specs::Iteration::iterated))]
 fn scan_word<B: Bus>(form: &Form, regs: &mut Registers, bus: &mut B) -> Iteration
     requires { form.now.op ≡ Op.Scas }
-    ensures effect { record { iteration = result; registers = regs.new; bus = B.state bus.new } ≡ after_loads form.now regs.old (B.state bus.old) (all_loaded (B.state bus.old).side (string_loads Op.Scas form.now.width regs.old)) }
+    ensures effect { record { answer = result; registers = regs.new; bus = B.state bus.new } ≡ after_loads form.now regs.old (B.state bus.old) (all_loaded (B.state bus.old).side (string_loads Op.Scas form.now.width regs.old)) }
     ensures lenders { B.lenders bus.new ≡ B.lenders bus.old }
 {
     let target = regs.general[EDI];
@@ -252,7 +252,7 @@ fn scan_word<B: Bus>(form: &Form, regs: &mut Registers, bus: &mut B) -> Iteratio
 #[tactic(auto, unfolding(crate::specs::Iteration::iteration))]
 fn iterate_exactly<B: Bus>(form: &Form, regs: &mut Registers, bus: &mut B) -> Iteration
     requires string { is_string form.now.op ≡ true }
-    ensures effect { record { iteration = result; registers = regs.new; bus = B.state bus.new } ≡ iteration form.now regs.old (B.state bus.old) }
+    ensures effect { record { answer = result; registers = regs.new; bus = B.state bus.new } ≡ iteration form.now regs.old (B.state bus.old) }
     ensures lenders { B.lenders bus.new ≡ B.lenders bus.old }
 {
     if repeats(form.repeat) && regs.general[ECX] == 0 {
@@ -272,7 +272,7 @@ fn iterate_exactly<B: Bus>(form: &Form, regs: &mut Registers, bus: &mut B) -> It
 /// Performs one iteration of MOVS, CMPS, STOS, LODS or SCAS (Intel 80386 manual, section 3.6). EIP isn't touched.
 pub fn iterate<B: Bus>(form: &Form, regs: &mut Registers, bus: &mut B) -> Iteration
     requires string { is_string form.now.op ≡ true }
-    ensures effect { record { iteration = result; registers = regs.new; bus = B.state bus.new } ≡ iteration form.now regs.old (B.state bus.old) }
+    ensures effect { record { answer = result; registers = regs.new; bus = B.state bus.new } ≡ iteration form.now regs.old (B.state bus.old) }
     ensures outside { StaysOutside result ((regs.new ≡ regs.old) × (B.state bus.new ≡ B.state bus.old)) }
     ensures place { SamePlace (B.state bus.old).side (B.state bus.new).side }
     ensures lenders { B.lenders bus.new ≡ B.lenders bus.old }

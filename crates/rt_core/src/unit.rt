@@ -69,7 +69,7 @@ fn breach_kind(breach: Breach) -> BreachKind
 // A unit of the processor over the guest's part of the memory and COM1.
 #[tactic(auto, unfolding(machine_parts::specs::Processor::unit_at))]
 fn run_unit(memory: &mut FlatMemory, registers: &mut Registers, board: &mut Board) -> GuestUnit
-    ensures answer { let side = guest_side memory.old in result ≡ answer_to registers.old.eip (address_behind registers.old side) (unit_at owner.Guest registers.old side (com1_of board.old)).stepped }
+    ensures answer { let side = guest_side memory.old in result ≡ answer_to registers.old.eip (address_behind registers.old side) (unit_at owner.Guest registers.old side (com1_of board.old)).answer }
     ensures registers { registers.new ≡ (unit_at owner.Guest registers.old (guest_side memory.old) (com1_of board.old)).registers }
     ensures side { guest_side memory.new ≡ (unit_at owner.Guest registers.old (guest_side memory.old) (com1_of board.old)).bus.side }
     ensures board { board.new ≡ accessed owner.Guest (unit_at owner.Guest registers.old (guest_side memory.old) (com1_of board.old)).bus.devices board.old }
@@ -91,7 +91,7 @@ fn perform(
     pending: &mut Pending,
 ) -> GuestUnit
     requires none_rose { rises_of board.old ≡ 0 }
-    ensures answer { let side = guest_side memory.old in result ≡ answer_to registers.old.eip (address_behind registers.old side) (unit_at owner.Guest registers.old side (com1_of board.old)).stepped }
+    ensures answer { let side = guest_side memory.old in result ≡ answer_to registers.old.eip (address_behind registers.old side) (unit_at owner.Guest registers.old side (com1_of board.old)).answer }
     ensures registers { registers.new ≡ (unit_at owner.Guest registers.old (guest_side memory.old) (com1_of board.old)).registers }
     ensures side { guest_side memory.new ≡ (unit_at owner.Guest registers.old (guest_side memory.old) (com1_of board.old)).bus.side }
     ensures com1 { com1_of board.new ≡ (unit_at owner.Guest registers.old (guest_side memory.old) (com1_of board.old)).bus.devices }

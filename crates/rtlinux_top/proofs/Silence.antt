@@ -83,7 +83,7 @@ if_silent false u v p q = q
 instruction_silent : (t : ℕ) (b : Bare) → b.services ≡ no_services → Silent (instruction t b)
 instruction_silent t b h =
     let e = unit_at Guest b.registers b.side b.com1 in
-    came_silent t e b (answer_to b.registers.eip (address_behind b.registers b.side) e.stepped) h
+    came_silent t e b (answer_to b.registers.eip (address_behind b.registers b.side) e.answer) h
 
 unless_silent : (t : ℕ) (b : Bare) (o : Option ℕ) → b.services ≡ no_services → Silent (unless_entered t b o)
 unless_silent t b (Some n) h =
