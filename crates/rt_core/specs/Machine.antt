@@ -10,7 +10,7 @@ use Rattle.port_board.specs.Board.{serial_of, accessed, rises_taken, device_step
 use Rattle.port_board.specs.declared.board.Board.{Board}
 use Rattle.line_kinds.specs.declared.kinds.GLine.{GLine}
 use Rattle.line_kinds.specs.declared.kinds.Who.{Who}
-use Rattle.bare_machine.specs.State.{Bare, GuestStart, no_services}
+use Rattle.bare_machine.specs.State.{Bare, GuestStart, UnitOutcome, Done, Calls, no_services}
 use Rattle.rt_core.specs.declared.guest.Guest.{Guest}
 
 -- `guest` is the guest's soft side, `on` what is on the processor, `coming` the events of the script's ticks to come, and `ticks` the
@@ -61,7 +61,12 @@ board_after events com1 board = after_unit com1 (device_step events board).board
 abbrev pub start_of : Parts → ℕ → GuestStart
 start_of memory entry = record { bytes = memory.guest; entry = entry; size = length memory.guest; services = no_services }
 
--- the line of a unit, if it has one, as a list
+-- the lines of a unit that is done
+abbrev pub unit_lines : UnitOutcome → List GLine
+unit_lines (Done after lines) = lines
+unit_lines (Calls call place after) = []
+
+-- the line of a gate, if it has one, as a list
 abbrev pub listed : Option GLine → List GLine
 listed None = []
 listed (Some line) = line ∷ []

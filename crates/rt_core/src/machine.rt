@@ -16,7 +16,7 @@ use crate::devices::devices;
 use crate::end::{EndLines, guest_end, guest_ends, real_time_ends};
 use crate::pick::pick;
 use crate::steps::{drain, timer};
-use crate::unit::{guest_unit, push_line};
+use crate::unit::guest_unit;
 use cpu_state::Registers;
 use device_script::{Event, Script};
 use flat_memory::FlatMemory;
@@ -133,14 +133,14 @@ impl Machine {
         );
         drain();
         pick(&mut self.on, lines);
-        let line = guest_unit(
+        guest_unit(
             self.ticks,
             &mut self.memory,
             &mut self.registers,
             &mut self.board,
             &mut self.guest,
+            lines,
         );
-        push_line(line, lines);
         timer();
     }
 

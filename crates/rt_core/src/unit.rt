@@ -14,7 +14,8 @@ ghost use Rattle.soft_gates.specs.Gate.{gated, WhenOutside};
 ghost use Rattle.machine_parts.specs.Processor.{unit_at};
 ghost use Rattle.bare_machine.specs.State.{Done};
 ghost use Rattle.bare_machine.specs.Unit.{int_entry, asked_entry, gate as gate_of, instruction as instruction_of, guest_unit as guest_unit_of, use_kind, access_kind, breach_kind};
-ghost use Rattle.rt_core.specs.Machine.{guest_side, com1_of, bare_with, after_unit, listed};
+ghost use Rattle.line_kinds.specs.declared.kinds.GLine.TheVariants.{Breach as BreachLine};
+ghost use Rattle.rt_core.specs.Machine.{guest_side, com1_of, bare_with, after_unit, listed, unit_lines};
 
 use crate::Guest;
 use crate::devices::mark;
@@ -253,19 +254,108 @@ fn perform_gate(
     }
 }
 
-// One instruction of a guest that runs.
+// Appends the line of a gate, if it has one.
+fn push_line(line: Option<GLine>, lines: &mut Lines)
+    requires { length lines.old.g ≤ 7 }
+    ensures { lines.new ≡ record lines.old { g = lines.old.g ++ listed line } }
+{
+    if let Some(line) = line {
+        lines.push_g(line);
+    }
+}
+
+// The same three, and what no guest may do, each with its line, which is rare: no tick without a line makes room for one.
+
+fn show_vector(
+    vector: u8,
+    push: u32,
+    memory: &mut FlatMemory,
+    registers: &mut Registers,
+    guest: &mut Guest,
+    lines: &mut Lines,
+)
+    requires size { length memory.old.guest < 2 ^ 32 }
+    requires table { HasTableIn guest.old.soft (length memory.old.guest) }
+    requires runs { guest.old.mode ≡ Mode.Runs }
+    requires room { length lines.old.g ≤ 7 }
+    ensures outcome { (com1 : _) → let came = int_entry vector push (bare_with memory.old registers.old com1 guest.old) in came ≡ Done (bare_with memory.new registers.new com1 guest.new) (unit_lines came) }
+    ensures lines { (com1 : _) → lines.new ≡ record lines.old { g = lines.old.g ++ unit_lines (int_entry vector push (bare_with memory.old registers.old com1 guest.old)) } }
+    ensures table { HasTableIn guest.new.soft (length memory.new.guest) }
+    ensures size { length memory.new.guest ≡ length memory.old.guest }
+    ensures real_time { memory.new.real_time ≡ memory.old.real_time }
+{
+    lines.push_g(enter_vector(vector, push, memory, registers, guest));
+}
+
+fn show_line(
+    line: u8,
+    memory: &mut FlatMemory,
+    registers: &mut Registers,
+    guest: &mut Guest,
+    lines: &mut Lines,
+)
+    requires line { line < 32 }
+    requires size { length memory.old.guest < 2 ^ 32 }
+    requires table { HasTableIn guest.old.soft (length memory.old.guest) }
+    requires room { length lines.old.g ≤ 7 }
+    ensures outcome { (com1 : _) → let came = asked_entry line (bare_with memory.old registers.old com1 guest.old) in came ≡ Done (bare_with memory.new registers.new com1 guest.new) (unit_lines came) }
+    ensures lines { (com1 : _) → lines.new ≡ record lines.old { g = lines.old.g ++ unit_lines (asked_entry line (bare_with memory.old registers.old com1 guest.old)) } }
+    ensures table { HasTableIn guest.new.soft (length memory.new.guest) }
+    ensures size { length memory.new.guest ≡ length memory.old.guest }
+    ensures real_time { memory.new.real_time ≡ memory.old.real_time }
+{
+    lines.push_g(enter_line(line, memory, registers, guest));
+}
+
+fn show_gate(
+    number: u8,
+    next: u32,
+    now: u32,
+    memory: &mut FlatMemory,
+    registers: &mut Registers,
+    guest: &mut Guest,
+    lines: &mut Lines,
+)
+    requires first { first_gate ≤ number }
+    requires last { number ≤ last_gate }
+    requires size { length memory.old.guest < 2 ^ 32 }
+    requires table { HasTableIn guest.old.soft (length memory.old.guest) }
+    requires room { length lines.old.g ≤ 7 }
+    ensures outcome { (com1 : _) → let came = gate_of now number next (bare_with memory.old registers.old com1 guest.old) in came ≡ Done (bare_with memory.new registers.new com1 guest.new) (unit_lines came) }
+    ensures lines { (com1 : _) → lines.new ≡ record lines.old { g = lines.old.g ++ unit_lines (gate_of now number next (bare_with memory.old registers.old com1 guest.old)) } }
+    ensures table { HasTableIn guest.new.soft (length memory.new.guest) }
+    ensures size { length memory.new.guest ≡ length memory.old.guest }
+    ensures real_time { memory.new.real_time ≡ memory.old.real_time }
+{
+    push_line(
+        perform_gate(number, next, now, memory, registers, guest),
+        lines,
+    );
+}
+
+fn show_breach(breach: Breach, lines: &mut Lines)
+    requires { length lines.old.g ≤ 7 }
+    ensures { lines.new ≡ record lines.old { g = lines.old.g ++ BreachLine (breach_kind breach) ∷ [] } }
+{
+    lines.push_g(GLine::Breach(breach_kind(breach)));
+}
+
+// One instruction of a guest that runs, with its line, if it has one.
 fn instruction(
     now: u32,
     memory: &mut FlatMemory,
     registers: &mut Registers,
     board: &mut Board,
     guest: &mut Guest,
-) -> Option<GLine>
+    lines: &mut Lines,
+)
     requires size { length memory.old.guest < 2 ^ 32 }
     requires table { HasTableIn guest.old.soft (length memory.old.guest) }
     requires runs { guest.old.mode ≡ Mode.Runs }
     requires none_rose { rises_of board.old ≡ 0 }
-    ensures outcome { instruction_of now (bare_with memory.old registers.old (com1_of board.old) guest.old) ≡ Done (bare_with memory.new registers.new (com1_of board.new) guest.new) (listed result) }
+    requires room { length lines.old.g ≤ 7 }
+    ensures outcome { let came = instruction_of now (bare_with memory.old registers.old (com1_of board.old) guest.old) in came ≡ Done (bare_with memory.new registers.new (com1_of board.new) guest.new) (unit_lines came) }
+    ensures lines { lines.new ≡ record lines.old { g = lines.old.g ++ unit_lines (instruction_of now (bare_with memory.old registers.old (com1_of board.old) guest.old)) } }
     ensures table { HasTableIn guest.new.soft (length memory.new.guest) }
     ensures size { length memory.new.guest ≡ length memory.old.guest }
     ensures real_time { memory.new.real_time ≡ memory.old.real_time }
@@ -273,19 +363,16 @@ fn instruction(
     ensures none_rose { rises_of board.new ≡ 0 }
 {
     match perform(memory, registers, board, &mut guest.pending) {
-        GuestUnit::Next => {
-            guest.soft.unit_done();
-            None
-        }
+        GuestUnit::Next => guest.soft.unit_done(),
         GuestUnit::Enter(vector, push) => {
-            Some(enter_vector(vector, push, memory, registers, guest))
+            show_vector(vector, push, memory, registers, guest, lines);
         }
         GuestUnit::Gate(number, next) => {
-            perform_gate(number, next, now, memory, registers, guest)
+            show_gate(number, next, now, memory, registers, guest, lines);
         }
         GuestUnit::Breach(breach) => {
             guest.mode = Mode::Stopped;
-            Some(GLine::Breach(breach_kind(breach)))
+            show_breach(breach, lines);
         }
     }
 }
@@ -311,11 +398,14 @@ pub fn guest_unit(
     registers: &mut Registers,
     board: &mut Board,
     guest: &mut Guest,
-) -> Option<GLine>
+    lines: &mut Lines,
+)
     requires size { length memory.old.guest < 2 ^ 32 }
     requires table { HasTableIn guest.old.soft (length memory.old.guest) }
     requires none_rose { rises_of board.old ≡ 0 }
-    ensures outcome { guest_unit_of now (bare_with memory.old registers.old (com1_of board.old) guest.old) ≡ Done (bare_with memory.new registers.new (com1_of board.new) guest.new) (listed result) }
+    requires room { length lines.old.g ≤ 7 }
+    ensures outcome { let came = guest_unit_of now (bare_with memory.old registers.old (com1_of board.old) guest.old) in came ≡ Done (bare_with memory.new registers.new (com1_of board.new) guest.new) (unit_lines came) }
+    ensures lines { lines.new ≡ record lines.old { g = lines.old.g ++ unit_lines (guest_unit_of now (bare_with memory.old registers.old (com1_of board.old) guest.old)) } }
     ensures table { HasTableIn guest.new.soft (length memory.new.guest) }
     ensures size { length memory.new.guest ≡ length memory.old.guest }
     ensures real_time { memory.new.real_time ≡ memory.old.real_time }
@@ -323,23 +413,13 @@ pub fn guest_unit(
     ensures none_rose { rises_of board.new ≡ 0 }
 {
     if guest.mode == Mode::Stopped {
-        return None;
+        return;
     }
     if let Some(line) = line_to_enter(guest) {
-        return Some(enter_line(line, memory, registers, guest));
+        return show_line(line, memory, registers, guest, lines);
     }
     if guest.mode == Mode::Halted {
-        return None;
+        return;
     }
-    instruction(now, memory, registers, board, guest)
-}
-
-/// Appends the line of a unit, if it has one.
-pub fn push_line(line: Option<GLine>, lines: &mut Lines)
-    requires { length lines.old.g ≤ 7 }
-    ensures { lines.new ≡ record lines.old { g = lines.old.g ++ listed line } }
-{
-    if let Some(line) = line {
-        lines.push_g(line);
-    }
+    instruction(now, memory, registers, board, guest, lines)
 }
