@@ -18,7 +18,7 @@ use Rattle.i386_effects.specs.Change as of
 use Rattle.i386_effects.specs.Effect.{Effect, Commit, commit_unless, written, changed, after_loads, effect_of}
 use Rattle.i386_effects.specs.declared.accesses.Touch.{Touch}
 use Rattle.i386_effects.specs.declared.accesses.Write.{Write}
-use Rattle.i386_strings.specs.Iteration.{IterationEffect, iteration, iterated, string_loads, string_writes, repeats, ended}
+use Rattle.i386_strings.specs.Iteration.{iteration, iterated, string_loads, string_writes, repeats, ended}
 use Rattle.i386_strings.specs.Iteration as strings
 use Rattle.i386_execute.specs.Changes.{change}
 use Rattle.i386_execute.specs.Loads.{loads}
