@@ -6,8 +6,8 @@ use Rattle.line_kinds.specs.declared.kinds.GLine.TheVariants.{Breach, Shutdown, 
 use Rattle.line_kinds.specs.declared.kinds.Mode.TheVariants.{Halted, Stopped}
 use Rattle.line_sets.specs.LineSet.{union, minus, first_in}
 use Rattle.soft_entry.specs.Entry.{entering}
-use Rattle.machine_parts.specs.Ranges.{first_outside}
-use Rattle.run_lines.specs.Calls.{PutCall, GetCall}
+use Rattle.memory_model.specs.Side.{first_outside}
+use Rattle.line_kinds.specs.Calls.{PutCall, GetCall}
 use Rattle.run_lines.specs.Says.{Answer}
 use Rattle.bare_machine.specs.Calls.{set_timer, fifo_put, fifo_get, is_served, replied}
 use Rattle.bare_machine.specs.State.{Bare, Done, Calls, all_services, no_services, first_state}

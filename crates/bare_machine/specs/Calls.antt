@@ -1,17 +1,15 @@
 -- The functions of the gate F6h on the timer and on FIFOs: their arguments are in EBX, ECX and EDX, and a result is left in EAX.
 use Rattle.std.specs.Prelude.{ℕ, ◌==◌, nat_lt, Bool, false, ◌&&◌, ◌||◌, [], ◌∷◌, take, if◌then◌else◌, Option, Some, None, ℤ, pos, negsuc}
 use Rattle.std.specs.Int.{cast_unsigned, w32}
-use Rattle.cpu_state.specs.Registers.{ebx, ecx, edx, with_eax}
-use Rattle.memory_model.specs.Side.{bytes_at, stored}
+use Rattle.cpu_state.specs.Registers.{ebx, ecx, edx, with_eax, at_eip}
+use Rattle.memory_model.specs.Side.{bytes_at, stored, first_outside}
 use Rattle.line_kinds.specs.declared.kinds.BreachKind.{BreachKind}
 use Rattle.line_kinds.specs.declared.kinds.BreachKind.TheVariants.{Load, Store}
 use Rattle.line_kinds.specs.declared.kinds.GLine.{GLine}
 use Rattle.line_kinds.specs.declared.kinds.GLine.TheVariants.{Breach, Put, Get}
 use Rattle.line_kinds.specs.declared.kinds.Mode.TheVariants.{Stopped}
-use Rattle.machine_parts.specs.Processor.{at_eip}
-use Rattle.machine_parts.specs.Ranges.{first_outside}
-use Rattle.run_lines.specs.Calls.{Call, PutCall, GetCall}
-use Rattle.run_lines.specs.Limits.{bytes_limit, span_limit}
+use Rattle.line_kinds.specs.Calls.{Call, PutCall, GetCall}
+use Rattle.rt_constants.specs.declared.limits.TheConstants.{BYTES_LIMIT, SPAN_LIMIT}
 use Rattle.run_lines.specs.Says.{Answer}
 use Rattle.bare_machine.specs.State.{Bare, UnitOutcome, Done, Calls, Services}
 
@@ -39,7 +37,7 @@ invalid = negsuc 21
 -- 3: the timer has the period EBX from this tick on
 abbrev pub set_timer : ℕ → Bare → UnitOutcome
 set_timer t b =
-    if nat_lt span_limit (ebx b.registers) then answered invalid b
+    if nat_lt SPAN_LIMIT (ebx b.registers) then answered invalid b
     else answered (pos 0) (record b { timer_start = t; timer_period = ebx b.registers })
 
 -- 4: the EDX bytes at ECX are put into FIFO EBX. Where one of them is outside, that is a breach of the state before the gate
@@ -49,7 +47,7 @@ put_unless before b None = Calls (PutCall (ebx b.registers) (bytes_at b.side (ec
 
 abbrev pub fifo_put : Bare → Bare → UnitOutcome
 fifo_put before b =
-    if nat_lt bytes_limit (edx b.registers) then answered invalid b
+    if nat_lt BYTES_LIMIT (edx b.registers) then answered invalid b
     else put_unless before b (first_outside b.side (ecx b.registers) (edx b.registers))
 
 -- 5: up to EDX bytes of FIFO EBX are asked for, and go to ECX
@@ -59,7 +57,7 @@ get_unless before b None = Calls (GetCall (ebx b.registers) (edx b.registers)) (
 
 abbrev pub fifo_get : Bare → Bare → UnitOutcome
 fifo_get before b =
-    if nat_lt bytes_limit (edx b.registers) then answered invalid b
+    if nat_lt BYTES_LIMIT (edx b.registers) then answered invalid b
     else get_unless before b (first_outside b.side (ecx b.registers) (edx b.registers))
 
 -- is it one of these functions, and there?

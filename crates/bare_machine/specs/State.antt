@@ -10,8 +10,8 @@ use Rattle.port_map.specs.Serial.{Serial}
 use Rattle.line_kinds.specs.declared.kinds.GLine.{GLine}
 use Rattle.line_kinds.specs.declared.kinds.Mode.{Mode}
 use Rattle.line_kinds.specs.declared.kinds.Mode.TheVariants.{Runs, Halted, Stopped}
-use Rattle.machine_parts.specs.SerialLine.{new_serial}
-use Rattle.run_lines.specs.Calls.{Call}
+use Rattle.port_map.specs.SerialLine.{new_serial}
+use Rattle.line_kinds.specs.Calls.{Call}
 
 -- which functions of the gate F6h are there beside the table, the mask and the time: the timer's, and the calls of FIFOs
 pub record Services : Type 0 where

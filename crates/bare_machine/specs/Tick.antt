@@ -4,8 +4,8 @@ use Rattle.device_script.specs.declared.event.Event.{Event}
 use Rattle.line_kinds.specs.declared.kinds.GLine.{GLine}
 use Rattle.line_kinds.specs.declared.kinds.GLine.TheVariants.{Com1}
 use Rattle.line_sets.specs.LineSet.{union}
-use Rattle.machine_parts.specs.Script.{lines_of, com1_bytes}
-use Rattle.machine_parts.specs.SerialLine.{ticked, byte_sent, all_received, sampled}
+use Rattle.device_script.specs.Events.{lines_of, com1_bytes}
+use Rattle.port_map.specs.SerialLine.{ticked, byte_sent, all_received, sampled}
 use Rattle.run_lines.specs.Says.{Sight, asks}
 use Rattle.bare_machine.specs.State.{Bare, UnitOutcome, Done}
 use Rattle.bare_machine.specs.Unit.{guest_unit, unit_lines, unit_after, with_com1}

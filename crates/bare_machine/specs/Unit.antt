@@ -28,7 +28,7 @@ use Rattle.line_sets.specs.LineSet.{with_line, without_line}
 use Rattle.pending_irqs.specs.Pending.{lowest_enabled}
 use Rattle.port_map.specs.Serial.{Serial, rose}
 use Rattle.port_map.specs.declared.owner.Owner.TheVariants.{Guest}
-use Rattle.machine_parts.specs.Processor.{unit_at}
+use Rattle.breach_monitor.specs.SerialUnit.{unit_at}
 use Rattle.run_lines.specs.Says.{Answer}
 use Rattle.bare_machine.specs.State.{Bare, UnitOutcome, Done, Calls, is_stopped, is_halted}
 use Rattle.bare_machine.specs.Calls.{breached, stopped, onward, is_served, served_by, replied, call_line}

@@ -2,3 +2,4 @@ pub mod Bus
 pub mod GuestUnit
 pub mod RealTimeUnit
 pub mod Laws
+pub mod SerialUnit

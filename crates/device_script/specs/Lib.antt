@@ -2,3 +2,4 @@ pub mod Event
 pub mod Line
 pub mod Draft
 pub mod Script
+pub mod Events

@@ -6,18 +6,20 @@ use Rattle.std.specs.List.{range_with_len}
 use Rattle.line_sets.specs.LineSet.{has, with_line, without_line}
 use Rattle.pic_8259.specs.Boot.{acknowledge_order}
 use Rattle.rt_irqs.specs.Irqs.{is_held, handler_order}
+use Rattle.rt_constants.specs.declared.lines.TheConstants.{TIMER_LINE, COM1_LINE, COM2_LINE}
 use Rattle.device_script.specs.declared.event.Event.{Event}
-use Rattle.port_map.specs.Serial.{rose}
+use Rattle.port_map.specs.Serial.{Serial, rose}
 use Rattle.line_kinds.specs.declared.kinds.HLine.{HLine}
 use Rattle.line_kinds.specs.declared.kinds.HLine.TheVariants.{Edge, Ack, Set}
 use Rattle.line_kinds.specs.declared.kinds.RLine.{RLine}
-use Rattle.machine_parts.specs.Script.{lines_of}
-use Rattle.run_lines.specs.Calls.{Call}
+use Rattle.device_script.specs.Events.{lines_of}
+use Rattle.line_kinds.specs.Calls.{Call}
 use Rattle.run_lines.specs.Ticks.{at_tick, lines_to}
 use Rattle.bare_machine.specs.State.{Bare, GuestStart}
 use Rattle.bare_machine.specs.Run.{bare_after}
 use Rattle.bare_machine.specs.Tick.{after_devices as bare_devices}
-use Rattle.priority_schedule.specs.Release.{Due, nearest, drains}
+use Rattle.rt_timeline.specs.declared.timeline.ThreadDue.{ThreadDue}
+use Rattle.priority_schedule.specs.Release.{nearest, drains}
 use Rattle.priority_schedule.specs.Run.{real_after}
 use Rattle.priority_schedule.specs.State.{RealTime, RealTimeStart}
 use Rattle.priority_schedule.specs.Tick.{opened, after_devices as real_devices}
@@ -59,16 +61,15 @@ with_edges edges s = record {
 abbrev pub with_if : Bool → ℕ → ℕ → ℕ
 with_if rises line edges = if rises then with_line edges line else edges
 
--- the lines of the serial ports that rose from one moment to another: 4 is COM1's and 3 COM2's
-abbrev pub ports_rose : Machines → Machines → ℕ → ℕ
-ports_rose before after edges = with_if (rose before.bare.com1 after.bare.com1) 4 (with_if (rose before.real.com2 after.real.com2) 3 edges)
+-- the lines of the serial ports that rose from one moment to another
+abbrev pub ports_rose : Serial → Serial → Serial → Serial → ℕ → ℕ
+ports_rose com1 next_com1 com2 next_com2 edges =
+    with_if (rose com1 next_com1) COM1_LINE (with_if (rose com2 next_com2) COM2_LINE edges)
+
+abbrev pub both_rose : Machines → Machines → ℕ → ℕ
+both_rose before after edges = ports_rose before.bare.com1 after.bare.com1 before.real.com2 after.real.com2 edges
 
 -- Dues
-
-abbrev pub earlier_due : Option ℕ → Option ℕ → Option ℕ
-earlier_due None b = b
-earlier_due (Some a) None = Some a
-earlier_due (Some a) (Some b) = Some (min a b)
 
 -- the guest's timer: the first start + k * period, with k from 1, above the last acknowledgement
 abbrev pub guest_due : ℕ → Bare → Option ℕ
@@ -76,24 +77,16 @@ guest_due last b =
     if b.timer_period == 0 then None
     else Some (b.timer_start + ((last - b.timer_start) / b.timer_period + 1) * b.timer_period)
 
--- the time of a thread's due
-abbrev pub time_of : Option Due → Option ℕ
-time_of d = option_map (λ (x : Due). x.due) d
-
 -- the nearest due of the waiting threads and of the guest's timer
 abbrev pub nearest_due : ℕ → Machines → Option ℕ
 nearest_due last m = earlier_due (time_of (nearest m.real.threads)) (guest_due last m.bare)
 
--- the one-shot is set in tick t for a due: it rises k ticks on, of 1 to 32,768, and its count is 2k - 1, since a tick has two pulses and
--- it rises with the one after its count
-abbrev pub ticks_until : ℕ → ℕ → ℕ
-ticks_until t due = max 1 (min (due - t) 32768)
-
+-- the one-shot is set in tick t for a due
 abbrev pub with_set : ℕ → Option ℕ → Marking → Marking
 with_set t None s = s
 with_set t (Some due) s = record {
   hardware = record s.hardware { rise = Some (t + ticks_until t due) };
-  lines = s.lines ++ Set (2 * ticks_until t due - 1) ∷ [];
+  lines = s.lines ++ Set (count_until t due) ∷ [];
 }
 
 -- 1. The edges of the device step: the script's lines, those of the serial ports that rose, and line 0 where the one-shot rises, which
@@ -107,7 +100,7 @@ abbrev pub without_rise : ℕ → Hardware → Hardware
 without_rise t h = record h { rise = if rises_at t h.rise then None else h.rise }
 
 abbrev pub device_edges : ℕ → List Event → Machines → Machines → Hardware → ℕ
-device_edges t events before after h = with_if (rises_at t h.rise) 0 (ports_rose before after (latched 0 (lines_of events)))
+device_edges t events before after h = with_if (rises_at t h.rise) TIMER_LINE (both_rose before after (latched 0 (lines_of events)))
 
 abbrev pub device_step : ℕ → List Event → Machines → Machines → Marking → Marking
 device_step t events before after s =
@@ -118,7 +111,7 @@ device_step t events before after s =
 
 abbrev pub acknowledged : ℕ → Machines → Marking → Marking
 acknowledged t released s =
-    if has s.hardware.latch 0
+    if has s.hardware.latch TIMER_LINE
     then with_set t (nearest_due t released) (record s { hardware = record s.hardware { latch = 0; last = t } })
     else record s { hardware = record s.hardware { latch = 0 } }
 
@@ -145,7 +138,7 @@ taken (line ∷ lines) s =
 
 abbrev pub unit_step : Machines → Machines → Marking → Marking
 unit_step before after s =
-    taken (filter (changes_owner before after) handler_order) (with_edges (ports_rose before after 0) s)
+    taken (filter (changes_owner before after) handler_order) (with_edges (both_rose before after 0) s)
 
 -- 4. The timer: the one-shot is set where the unit changed the nearest due and there is one
 

@@ -45,3 +45,11 @@ loaded side at n = if inside side at n then Some (word_at side at n) else None
 -- the side after a store of a word, which changes nothing where a byte of it is outside
 abbrev pub stored_inside : Side → ℕ → ℕ → ℕ → Side
 stored_inside side at n x = if inside side at n then word_stored side at n x else side
+
+-- the first of the n bytes from an address on that is outside; a range of no bytes has none
+unfoldable pub first_outside : Side → ℕ → ℕ → Option ℕ
+first_outside side at n =
+    if n == 0 then None
+    else if inside side at n then None
+    else if inside side at 1 then Some (side.first + length side.bytes)
+    else Some at

@@ -1,6 +1,7 @@
 -- An owner's serial port with the level of its line that was sampled last, and what accesses of the owner do to it.
 use Rattle.std.specs.Prelude.{ℕ, ◌+◌, ◌-◌, ◌*◌, ◌/◌, ◌%◌, Bool, not, ◌&&◌, if◌then◌else◌, zero, suc}
-use Rattle.cpu_state.specs.Bus.{Ports}
+use Rattle.memory_model.specs.Side.{Side}
+use Rattle.cpu_state.specs.Bus.{Ports, State}
 use Rattle.uart_16550.specs.SerialPort.{SerialPort, register_read, register_after_read, register_written, line_of}
 use Rattle.port_map.specs.Owner.{base_of, is_serial, is_mine}
 use Rattle.port_map.specs.declared.owner.Owner.{Owner}
@@ -8,6 +9,10 @@ use Rattle.port_map.specs.declared.owner.Owner.{Owner}
 pub record Serial : Type 0 where
   pub port : SerialPort
   pub high : Bool
+
+-- what an owner reaches: its side, and its serial port
+abbrev pub reached : Side → Serial → State Serial
+reached side port = record { side = side; devices = port }
 
 -- One port: every port of nobody reads all ones, and ignores writes
 

@@ -2,10 +2,13 @@
 use Rattle.std.proofs.Common.{◌≡◌, ℕ, zero, suc, ◌+◌, ◌<◌, ◌≤◌, Bool, true, false, cond, nat_le, refl, ap, ◌∙◌, arith, List, length, Option, Some, None, option_map, subst, IfSome, count_by}
 use Rattle.std.proofs.lemmas.Bool.Decides.{nat_tests}
 use Rattle.std.proofs.lemmas.List.Sums.{sum_by-set, count_by-le-length}
-use Rattle.priority_schedule.specs.Due.{Thread, Ready, with_state}
-use Rattle.priority_schedule.specs.Limits.{threads_limit}
-use Rattle.priority_schedule.specs.Release.{Ticking, Due, due_held, due_at, nearest, come, with_released, after_one, released, drained}
-use Rattle.priority_schedule.specs.State.{thread_at, with_thread}
+use Rattle.rt_threads.specs.declared.threads.Thread.{Thread}
+use Rattle.rt_threads.specs.declared.threads.State.TheVariants.{Ready}
+use Rattle.rt_threads.specs.Threads.{with_state, due_held, due_at, thread_at, with_thread}
+use Rattle.rt_constants.specs.declared.limits.TheConstants.{THREADS_LIMIT}
+use Rattle.rt_timeline.specs.declared.timeline.ThreadDue.{ThreadDue}
+use Rattle.rt_timeline.specs.Dues.{come}
+use Rattle.priority_schedule.specs.Release.{Ticking, nearest, with_released, after_one, released, drained}
 use Rattle.priority_schedule.proofs.Dues.{come_of, come_by, all_above}
 
 abbrev has_come : ℕ → Option ℕ → Bool
@@ -30,7 +33,7 @@ come_slot : (t : ℕ) (slot : Option Thread) (due : ℕ) → due_held slot ≡ S
 come_slot t slot due e h = ap (has_come t) e ∙ (let q : nat_le due t ≡ true = grind (arith, nat_tests, h) in q)
 
 -- a release leaves one fewer
-one_fewer : (t : ℕ) (threads : List (Option Thread)) (d : Due) → come t (nearest threads) ≡ Some d → coming t (with_thread d.id (with_state Ready) threads) + 1 ≡ coming t threads
+one_fewer : (t : ℕ) (threads : List (Option Thread)) (d : ThreadDue) → come t (nearest threads) ≡ Some d → coming t (with_thread d.id (with_state Ready) threads) + 1 ≡ coming t threads
 one_fewer t threads d h =
     let p = come_of t threads d h in
     let e : p.place ≡ d.id = let f = p.number in omega (arith, f) in
@@ -62,7 +65,7 @@ none_left (suc k) t s h =
       | Some d ↦ λ e. let f = one_fewer t s.real.threads d e in none_left k t (with_released d s) (omega (arith, f, h))
     ] refl
 
-pub all_released : (t : ℕ) (s : Ticking) → length s.real.threads ≤ threads_limit → (i : ℕ) → IfSome (due_at (drained true t s).real.threads i) (λ due. t < due)
+pub all_released : (t : ℕ) (s : Ticking) → length s.real.threads ≤ THREADS_LIMIT → (i : ℕ) → IfSome (due_at (drained true t s).real.threads i) (λ due. t < due)
 all_released t s h i =
     let few = count_by-le-length (slot_comes t) s.real.threads in
-    all_above t (released threads_limit t s).real.threads (none_left threads_limit t s (omega (arith, few, h))) i
+    all_above t (released THREADS_LIMIT t s).real.threads (none_left THREADS_LIMIT t s (omega (arith, few, h))) i

@@ -1,11 +1,6 @@
-pub mod Errors
-pub mod Limits
-pub mod Due
-pub mod Fifos
 pub mod State
 pub mod Release
 pub mod Pick
-pub mod Gates
 pub mod Unit
 pub mod Tick
 pub mod Run

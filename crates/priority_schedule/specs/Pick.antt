@@ -1,43 +1,16 @@
--- The pick: what is on the processor in a tick. Threads of greater priority go first (POSIX, SCHED_FIFO); the order among equal ones,
--- and of inits and handlers before threads, is this project's own.
-use Rattle.std.specs.Prelude.{ℕ, ◌==◌, nat_lt, Bool, false, not, ◌&&◌, ◌||◌, List, [], ◌∷◌, map, find, position, if◌then◌else◌, Option, Some, None, option_map}
-use Rattle.std.specs.List.{list_any}
+-- The pick: what is on the processor in a tick. That inits and handlers go before threads is this project's own.
+use Rattle.std.specs.Prelude.{Bool, List, [], ◌∷◌, if◌then◌else◌, Option, Some, None, option_map}
 use Rattle.rt_irqs.specs.Irqs.{next_of}
 use Rattle.line_kinds.specs.declared.kinds.Who.{Who}
 use Rattle.line_kinds.specs.declared.kinds.Who.TheVariants.{Guest, Thread as ThreadOn, Init, Irq, Fifo as FifoOn}
-use Rattle.priority_schedule.specs.Fifos.{Fifo}
-use Rattle.priority_schedule.specs.State.{RealTime, Arrival, Module, priority_of}
-
--- a ready thread's number, its priority, and since when it is ready
-pub record Place : Type 0 where
-  pub id : ℕ
-  pub priority : ℕ
-  pub since : ℕ
-
--- does one go before another? By priority, and in version 2 among equal priorities by since when it is ready
-abbrev pub goes_before : ℕ → Place → Place → Bool
-goes_before version b a = nat_lt a.priority b.priority || (version == 2 && (a.priority == b.priority && nat_lt b.since a.since))
-
-abbrev pub is_beaten_in : ℕ → List Place → Place → Bool
-is_beaten_in version places a = list_any (λ b. goes_before version b a) places
-
--- the first in order of arrival before which none goes
-unfoldable pub first_place : ℕ → List Place → Option Place
-first_place version places = find (λ a. not (is_beaten_in version places a)) places
-
--- the ready threads with their priorities
-abbrev pub place_of : (ℕ → ℕ) → Arrival → Place
-place_of priority a = record { id = a.id; priority = priority a.id; since = a.since }
-
-abbrev pub places : (ℕ → ℕ) → List Arrival → List Place
-places priority ready = map (place_of priority) ready
+use Rattle.rt_threads.specs.Threads.{priority_of}
+use Rattle.rt_ready.specs.declared.ready.Place.{Place}
+use Rattle.rt_ready.specs.Order.{first_place, places}
+use Rattle.rt_fifos.specs.Fifos.{next_marked}
+use Rattle.priority_schedule.specs.State.{RealTime, Module}
 
 abbrev pub first_ready : RealTime → Option Place
 first_ready m = first_place m.version (places (priority_of m.threads) m.ready)
-
-abbrev pub is_marked : Option Fifo → Bool
-is_marked None = false
-is_marked (Some fifo) = fifo.mark
 
 abbrev pub next_module : List Module → Option Who
 next_module [] = None
@@ -55,7 +28,7 @@ abbrev pub next_activity : Bool → RealTime → Who
 next_activity draining m = first_of_all (
     next_module m.modules
     ∷ (if draining then option_map Irq (next_of m.irqs) else None)
-    ∷ (if draining then option_map FifoOn (position is_marked m.fifos) else None)
+    ∷ (if draining then option_map FifoOn (next_marked m.fifos) else None)
     ∷ option_map (λ (p : Place). ThreadOn p.id) (first_ready m)
     ∷ [])
 

@@ -5,10 +5,12 @@ use Rattle.line_kinds.specs.declared.kinds.RLine.{RLine}
 use Rattle.line_kinds.specs.declared.kinds.RLine.TheVariants.{Release, On, Gate, Ret, Fault}
 use Rattle.line_kinds.specs.declared.kinds.Who.{Who}
 use Rattle.line_kinds.specs.declared.kinds.Who.TheVariants.{Guest, Thread}
-use Rattle.run_lines.specs.Gates.{GateName, PthreadCreate, PthreadDelete, PthreadSuspend, PthreadWakeup, PthreadMakePeriodic, PthreadWait, PthreadSetprio, Nanosleep, gate_of}
+use Rattle.module_gates.specs.declared.names.GateName.{GateName}
+use Rattle.module_gates.specs.declared.names.GateName.TheVariants.{PthreadCreate, PthreadDelete, PthreadSuspend, PthreadWakeup, PthreadMakePeriodic, PthreadWait, PthreadSetprio, Nanosleep}
+use Rattle.module_gates.specs.Names.{gate_of}
 use Rattle.run_lines.specs.Says.{ebx_of, holder}
 use Rattle.run_lines.specs.Ticks.{at_tick}
-use Rattle.priority_schedule.specs.Limits.{threads_limit}
+use Rattle.rt_constants.specs.declared.limits.TheConstants.{THREADS_LIMIT}
 
 -- what the lines so far say: who holds the processor, the priority of each live thread, and the ready threads
 pub record Seen : Type 0 where
@@ -17,7 +19,7 @@ pub record Seen : Type 0 where
   pub ready : List ℕ
 
 abbrev pub nothing_seen : Seen
-nothing_seen = record { who = None; priorities = replicate threads_limit None; ready = [] }
+nothing_seen = record { who = None; priorities = replicate THREADS_LIMIT None; ready = [] }
 
 abbrev pub ecx_of : List ℕ → ℕ
 ecx_of words = slice_index words 1

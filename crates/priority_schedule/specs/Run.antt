@@ -4,7 +4,8 @@ use Rattle.device_script.specs.declared.event.Event.{Event}
 use Rattle.line_kinds.specs.declared.kinds.RLine.{RLine}
 use Rattle.line_kinds.specs.declared.kinds.RLine.TheVariants.{End, Memory}
 use Rattle.side_digest.specs.Digest.{digest}
-use Rattle.run_lines.specs.Calls.{Call, call_at}
+use Rattle.line_kinds.specs.Calls.{Call}
+use Rattle.run_lines.specs.Calls.{call_at}
 use Rattle.run_lines.specs.Ticks.{at_tick, stamped, lines_to}
 use Rattle.priority_schedule.specs.State.{RealTime, RealTimeStart, first_state}
 use Rattle.priority_schedule.specs.Tick.{real_time_tick}

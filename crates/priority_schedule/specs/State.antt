@@ -1,21 +1,17 @@
 -- The state of the real-time side.
-use Rattle.std.specs.Prelude.{ℕ, ◌+◌, ◌==◌, Bool, false, not, List, [], ◌∷◌, ◌++◌, replicate, filter, slice_index_or, slice_set, Option, Some, None, is_some, option_map}
-use Rattle.std.specs.List.{list_any}
+use Rattle.std.specs.Prelude.{ℕ, ◌+◌, false, List, [], ◌∷◌, replicate, Option, None}
 use Rattle.memory_model.specs.Side.{Side}
 use Rattle.cpu_state.specs.declared.registers.Registers.{Registers}
 use Rattle.rt_irqs.specs.Irqs.{Lines, no_lines}
 use Rattle.port_map.specs.Serial.{Serial}
 use Rattle.line_kinds.specs.declared.kinds.Who.{Who}
-use Rattle.machine_parts.specs.Processor.{starting}
-use Rattle.machine_parts.specs.SerialLine.{new_serial}
-use Rattle.priority_schedule.specs.Limits.{threads_limit, fifos_limit}
-use Rattle.priority_schedule.specs.Due.{Thread}
-use Rattle.priority_schedule.specs.Fifos.{Fifo}
-
--- a ready thread's number, and since when it is ready: its due, where that released it, or else the tick of the gate that made it so
-pub record Arrival : Type 0 where
-  pub id : ℕ
-  pub since : ℕ
+use Rattle.cpu_state.specs.Registers.{starting}
+use Rattle.port_map.specs.SerialLine.{new_serial}
+use Rattle.rt_constants.specs.declared.limits.TheConstants.{THREADS_LIMIT, FIFOS_LIMIT}
+use Rattle.rt_threads.specs.declared.threads.Thread.{Thread}
+use Rattle.rt_ready.specs.Order.{Arrival}
+use Rattle.rt_fifos.specs.Fifos.{Fifo}
+use Rattle.module_gates.specs.Gates.{GateParts}
 
 -- a module's number and the entry of its init
 pub record Module : Type 0 where
@@ -56,42 +52,19 @@ first_state start = record {
   version = start.version;
   side = start.side;
   modules = numbered 0 start.inits;
-  threads = replicate threads_limit None;
+  threads = replicate THREADS_LIMIT None;
   ready = [];
   irqs = no_lines;
-  fifos = replicate fifos_limit None;
+  fifos = replicate FIFOS_LIMIT None;
   com2 = new_serial;
   registers = starting 0 0 0 false;
   on = None;
 }
 
--- Threads
+-- What gates use of it, and what they leave
 
-abbrev pub thread_at : List (Option Thread) → ℕ → Option Thread
-thread_at threads i = slice_index_or threads i None
+abbrev pub parts_of : RealTime → GateParts
+parts_of m = record { threads = m.threads; ready = m.ready; irqs = m.irqs; fifos = m.fifos; side = m.side }
 
-abbrev pub is_live : List (Option Thread) → ℕ → Bool
-is_live threads i = is_some (thread_at threads i)
-
-abbrev pub priority_in : Option Thread → ℕ
-priority_in None = 0
-priority_in (Some thread) = thread.priority
-
-abbrev pub priority_of : List (Option Thread) → ℕ → ℕ
-priority_of threads i = priority_in (thread_at threads i)
-
--- the threads with a change of one, if it is live
-abbrev pub with_thread : ℕ → (Thread → Thread) → List (Option Thread) → List (Option Thread)
-with_thread i change threads = slice_set threads i (option_map change (thread_at threads i))
-
--- The ready list
-
-abbrev pub is_ready : ℕ → List Arrival → Bool
-is_ready i ready = list_any (λ (a : Arrival). a.id == i) ready
-
-abbrev pub without : ℕ → List Arrival → List Arrival
-without i ready = filter (λ (a : Arrival). not (a.id == i)) ready
-
--- a thread comes last
-abbrev pub joined : ℕ → ℕ → List Arrival → List Arrival
-joined i since ready = ready ++ record { id = i; since = since } ∷ []
+abbrev pub with_parts : GateParts → RealTime → RealTime
+with_parts p m = record m { threads = p.threads; ready = p.ready; irqs = p.irqs; fifos = p.fifos; side = p.side }

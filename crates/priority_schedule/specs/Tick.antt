@@ -8,14 +8,15 @@ use Rattle.line_kinds.specs.declared.kinds.RLine.{RLine}
 use Rattle.line_kinds.specs.declared.kinds.RLine.TheVariants.{Com2, On}
 use Rattle.line_kinds.specs.declared.kinds.Who.{Who}
 use Rattle.line_kinds.specs.declared.kinds.Who.TheVariants.{Guest, Thread as ThreadOn, Init, Irq, Fifo as FifoOn}
-use Rattle.machine_parts.specs.Processor.{starting}
-use Rattle.machine_parts.specs.Script.{lines_of, com2_bytes}
-use Rattle.machine_parts.specs.SerialLine.{ticked, byte_sent, all_received, sampled}
-use Rattle.run_lines.specs.Calls.{Call}
-use Rattle.priority_schedule.specs.Fifos.{Fifo, fifo_at, without_mark}
+use Rattle.cpu_state.specs.Registers.{starting}
+use Rattle.device_script.specs.Events.{lines_of, com2_bytes}
+use Rattle.port_map.specs.SerialLine.{ticked, byte_sent, all_received, sampled}
+use Rattle.line_kinds.specs.Calls.{Call}
+use Rattle.rt_fifos.specs.Fifos.{fifo_at, without_mark, handler_in}
 use Rattle.priority_schedule.specs.Pick.{pick}
 use Rattle.priority_schedule.specs.Release.{Ticking, drains, drained}
-use Rattle.priority_schedule.specs.State.{RealTime, Module, is_ready}
+use Rattle.rt_ready.specs.Order.{is_ready}
+use Rattle.priority_schedule.specs.State.{RealTime, Module}
 use Rattle.priority_schedule.specs.Unit.{RealUnit, unit_of, with_com2}
 
 abbrev pub begun : RealTime → Ticking
@@ -73,10 +74,6 @@ abbrev pub without_first : List Module → List Module
 without_first [] = []
 without_first (m ∷ ms) = ms
 
-abbrev pub handler_in : Option Fifo → ℕ
-handler_in None = 0
-handler_in (Some fifo) = unwrap_or fifo.handler 0
-
 abbrev pub unmarked : ℕ → Lines → Lines
 unmarked line irqs = record irqs { marked = without_line irqs.marked line }
 
@@ -110,9 +107,13 @@ abbrev pub stays : RealUnit → Option Who → Bool
 stays u (Some (ThreadOn i)) = not u.ended && is_ready i u.after.ready
 stays u on = not u.ended
 
+-- where it ended, the registers of an init or handler are gone
 abbrev pub after_unit : Ticking → RealUnit → Ticking
-after_unit s u = record {
-  real = record u.after { on = if stays u s.real.on then s.real.on else None };
+after_unit s u = let stay = stays u s.real.on in record {
+  real = record u.after {
+    on = if stay then s.real.on else None;
+    registers = if stay then u.after.registers else starting 0 0 0 false;
+  };
   lines = s.lines ++ u.lines;
 }
 

@@ -1,12 +1,12 @@
 -- The unit of what is on: one instruction of a real-time activity with its gate, return or fault, or the guest's call on FIFOs.
 use Rattle.std.specs.Prelude.{ℕ, suc, zero, Bool, true, false, ◌&&◌, List, [], ◌∷◌, if◌then◌else◌, Option, Some, None, ℤ, pos, negsuc}
 use Rattle.std.specs.Int.{cast_unsigned, w32}
-use Rattle.cpu_state.specs.Registers.{eax, ebx, ecx, edx, esi, with_eax}
+use Rattle.cpu_state.specs.Registers.{eax, ebx, ecx, edx, esi, with_eax, at_eip}
 use Rattle.memory_model.specs.Side.{Side}
 use Rattle.cpu_state.specs.declared.registers.Registers.{Registers}
 use Rattle.line_sets.specs.LineSet.{with_line}
 use Rattle.rt_irqs.specs.Irqs.{Lines, is_held, freed}
-use Rattle.port_map.specs.Serial.{Serial, serial_ports, rose}
+use Rattle.port_map.specs.Serial.{Serial, serial_ports, rose, reached}
 use Rattle.port_map.specs.declared.owner.Owner.TheVariants.{RealTime as RealTimeOwner}
 use Rattle.breach_monitor.specs.RealTimeUnit.{Outcome, real_time as real_time_outcome}
 use Rattle.breach_monitor.specs.declared.real_time.RealTimeUnit.{RealTimeUnit}
@@ -17,13 +17,13 @@ use Rattle.line_kinds.specs.declared.kinds.RLine.{RLine}
 use Rattle.line_kinds.specs.declared.kinds.RLine.TheVariants.{Gate, Say, Ret, Fault, Reply}
 use Rattle.line_kinds.specs.declared.kinds.Who.{Who}
 use Rattle.line_kinds.specs.declared.kinds.Who.TheVariants.{Guest, Thread as ThreadOn, Init, Irq, Fifo as FifoOn}
-use Rattle.machine_parts.specs.Processor.{reached, at_eip}
-use Rattle.run_lines.specs.Calls.{Call, PutCall, GetCall}
-use Rattle.run_lines.specs.Gates.{gate_of}
-use Rattle.priority_schedule.specs.Due.{Thread}
-use Rattle.priority_schedule.specs.Fifos.{FifoReply, put_reply, get_reply, with_mark, without_handler}
-use Rattle.priority_schedule.specs.Gates.{Request, Answered, gate, deleted}
-use Rattle.priority_schedule.specs.State.{RealTime, thread_at, with_thread}
+use Rattle.line_kinds.specs.Calls.{Call, PutCall, GetCall}
+use Rattle.module_gates.specs.Names.{gate_of}
+use Rattle.rt_threads.specs.declared.threads.Thread.{Thread}
+use Rattle.rt_fifos.specs.Fifos.{FifoReply, put_reply, get_reply, with_mark, without_handler}
+use Rattle.module_gates.specs.Gates.{Request, Answered, gate, after_fault, after_return}
+use Rattle.rt_threads.specs.Threads.{given_registers, thread_at, with_thread}
+use Rattle.priority_schedule.specs.State.{RealTime, parts_of, with_parts}
 
 -- what a unit leaves, with its lines, and whether the activity ended
 pub record RealUnit : Type 0 where
@@ -40,9 +40,6 @@ registers_in registers (Some thread) = thread.registers
 abbrev pub registers_of : Who → RealTime → Registers
 registers_of (ThreadOn i) m = registers_in m.registers (thread_at m.threads i)
 registers_of who m = m.registers
-
-abbrev pub given_registers : Registers → Thread → Thread
-given_registers registers thread = record thread { registers = registers }
 
 abbrev pub with_registers : Who → Registers → RealTime → RealTime
 with_registers (ThreadOn i) registers m = record m { threads = with_thread i (given_registers registers) m.threads }
@@ -64,27 +61,15 @@ performed_unit who o m = record {
   ended = false;
 }
 
--- A fault, of which nothing is performed: a thread is deleted, a handler's line is freed as by gate 19, a FIFO loses its handler, and
--- an init ends. Where the line or the FIFO is gone already, that is all
-
-abbrev pub after_fault : Who → RealTime → RealTime
-after_fault (ThreadOn i) m = deleted i m
-after_fault (Irq line) m = record m { irqs = freed m.irqs line }
-after_fault (FifoOn f) m = record m { fifos = without_handler f m.fifos }
-after_fault (Init n) m = m
-after_fault Guest m = m
+-- A fault, of which nothing is performed
 
 abbrev pub fault_unit : Who → FaultKind → RealTime → RealUnit
-fault_unit who kind m = record { after = after_fault who m; lines = Fault who kind ∷ []; ended = true }
+fault_unit who kind m = record { after = with_parts (after_fault who (parts_of m)) m; lines = Fault who kind ∷ []; ended = true }
 
--- INT F9h: an init or a handler ends, a thread is deleted
-
-abbrev pub after_return : Who → RealTime → RealTime
-after_return (ThreadOn i) m = deleted i m
-after_return who m = m
+-- INT F9h: the activity ends
 
 abbrev pub return_unit : Who → RealTime → RealUnit
-return_unit who m = record { after = after_return who m; lines = Ret ∷ []; ended = true }
+return_unit who m = record { after = with_parts (after_return who (parts_of m)) m; lines = Ret ∷ []; ended = true }
 
 -- INT F8h: a gate. Its result goes to EAX, and the activity goes on behind it
 
@@ -101,7 +86,7 @@ printed_lines (Some bytes) = Say bytes ∷ []
 abbrev pub gate_answer : Who → Registers → Request → RealTime → Option Answered → RealUnit
 gate_answer who registers q m None = fault_unit who Memory m
 gate_answer who registers q m (Some a) = record {
-  after = with_registers who (with_eax (cast_unsigned w32 a.result) registers) a.after;
+  after = with_registers who (with_eax (cast_unsigned w32 a.result) registers) (with_parts a.after m);
   lines = gate_line q a.result ∷ printed_lines a.printed;
   ended = false;
 }
@@ -110,7 +95,7 @@ abbrev pub gate_unit : ℕ → Who → ℕ → RealTime → RealUnit
 gate_unit t who next m =
     let registers = registers_of who m in
     let q = request_of registers in
-    gate_answer who (at_eip next registers) q m (gate t who q m (gate_of q.function))
+    gate_answer who (at_eip next registers) q m (gate t who q (parts_of m) (gate_of q.function))
 
 -- What the processor's unit came to: one instruction with CLI, STI, PUSHF and POPF on the activity's own IF, or the gate, the return,
 -- or the first fault, in the order in which `real_time` names them

@@ -1,5 +1,5 @@
-//! The real-time side as definitions: its state, what releases and picks its threads, the table of its gates, its unit, a tick and a
-//! run, and the law of priority that its lines meet.
+//! The real-time side as definitions: its state, what releases and picks its threads, its unit, a tick and a run, and the law of
+//! priority that its lines meet. The table of its gates stands in a crate of its own.
 //!
 //! The schedule has a side of memory, threads, interrupt lines, FIFOs and a serial port. It has no interrupt controller and no timer
 //! chip, and no guest: of the guest it knows the calls on FIFOs. Threads, FIFOs and lines are those of RTLinux 3; where a rule isn't
@@ -7,16 +7,13 @@
 #![tactic(auto)]
 
 ghost use Rattle.priority_schedule.specs.Laws.{AllReleased};
-ghost use Rattle.priority_schedule.specs.Worked.{Exhausted, GateRows, Handlers, Order, Picks, Releases};
+ghost use Rattle.priority_schedule.specs.Worked.{Handlers, Order, Releases};
 
-/// What the definitions give on small states: picks, releases, what is on next, handlers, and the table of gates.
+/// What the definitions give on small states: releases, what is on next, and handlers that start.
 pub fn worked()
-    ensures picks { Picks }
     ensures releases { Releases }
     ensures order { Order }
     ensures handlers { Handlers }
-    ensures gates { GateRows }
-    ensures exhausted { Exhausted }
 {}
 
 /// A tick that drains releases every thread whose due has come.

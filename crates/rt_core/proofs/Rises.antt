@@ -16,8 +16,8 @@ use Rattle.port_map.specs.Serial.{Serial, rose}
 use Rattle.port_board.specs.Board.{Rising, rises_if, com1_sampled, sampled as board_sampled, pulsed_once, coms_ticked, event_done, events_done, AreEvents, device_step, accessed, rises_at_once, with_serial, rises_of, rises_taken}
 use Rattle.port_map.specs.declared.owner.Owner.TheVariants.{Guest}
 use Rattle.port_board.specs.declared.board.Board.{Board}
-use Rattle.machine_parts.specs.Script.{lines_of, com1_bytes}
-use Rattle.machine_parts.specs.SerialLine.{ticked, received, all_received, sampled}
+use Rattle.device_script.specs.Events.{lines_of, com1_bytes}
+use Rattle.port_map.specs.SerialLine.{ticked, received, all_received, sampled}
 use Rattle.run_lines.specs.Says.{lines_asked}
 use Rattle.rt_core.specs.Machine.{com1_of, after_unit}
 

@@ -7,8 +7,8 @@ use Rattle.device_script.specs.declared.event.Event.{Event}
 use Rattle.line_sets.specs.LineSet.{union, with_line}
 use Rattle.rt_core.proofs.Rises.{union-none}
 use Rattle.port_map.specs.Serial.{Serial, rose}
-use Rattle.machine_parts.specs.Script.{lines_of, com1_bytes}
-use Rattle.machine_parts.specs.SerialLine.{ticked, byte_sent, all_received, sampled}
+use Rattle.device_script.specs.Events.{lines_of, com1_bytes}
+use Rattle.port_map.specs.SerialLine.{ticked, byte_sent, all_received, sampled}
 use Rattle.line_kinds.specs.declared.kinds.GLine.{GLine}
 use Rattle.line_kinds.specs.declared.kinds.Who.{Who}
 use Rattle.line_kinds.specs.declared.kinds.Who.TheVariants.{Guest as ByGuest, Thread, Init, Irq, Fifo}

@@ -3,8 +3,8 @@ ghost use Rattle.std.specs.Prelude.{◌≡◌, [], if◌then◌else◌};
 ghost use Rattle.line_sets.specs.LineSet.{union, minus, with_line};
 ghost use Rattle.port_map.specs.Serial.{rose};
 ghost use Rattle.port_board.specs.Board.{AreEvents, device_step, rises_of};
-ghost use Rattle.machine_parts.specs.SerialLine.{ticked, byte_sent, all_received, sampled};
-ghost use Rattle.machine_parts.specs.Script.{lines_of, com1_bytes};
+ghost use Rattle.port_map.specs.SerialLine.{ticked, byte_sent, all_received, sampled};
+ghost use Rattle.device_script.specs.Events.{lines_of, com1_bytes};
 ghost use Rattle.run_lines.specs.Says.{lines_asked};
 ghost use Rattle.bare_machine.specs.Tick.{com1_lines};
 ghost use Rattle.rt_core.specs.Machine.{com1_of};
@@ -27,7 +27,7 @@ pub fn mark(lines: u16, pending: &mut Pending)
 
 // The board takes a tick and the script's events of it. The lines that rise are marked for the guest, and the byte that leaves COM1 is
 // given.
-#[tactic(auto, unfolding(machine_parts::specs::SerialLine::byte_sent))]
+#[tactic(auto, unfolding(port_map::specs::SerialLine::byte_sent))]
 fn step_board(events: &[Event], board: &mut Board, pending: &mut Pending) -> Option<u8>
     requires { AreEvents events.now }
     ensures com1 { com1_of board.new ≡ sampled (all_received (com1_bytes events.now) (ticked (com1_of board.old))) }

@@ -69,7 +69,7 @@ impl Machine {
     ghost use Rattle.rt_core.specs.Machine.{bare_of, start_of, com1_of, board_after};
 
     /// The machine before its first tick, with nothing on the processor. It takes all memory that a run needs.
-    #[tactic(auto, unfolding(bare_machine::specs::State::first_state, machine_parts::specs::SerialLine::new_serial))]
+    #[tactic(auto, unfolding(bare_machine::specs::State::first_state, port_map::specs::SerialLine::new_serial))]
     pub fn boot(parts: Parts) -> Result<Machine, NoMemory>
         requires size { length parts.memory.guest ≤ 16777216 }
         requires script { IsScript parts.script.events }

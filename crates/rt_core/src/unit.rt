@@ -11,7 +11,7 @@ ghost use Rattle.soft_flags.specs.SoftFlags.{HasTableIn, is_open};
 ghost use Rattle.pending_irqs.specs.Pending.{lowest_enabled};
 ghost use Rattle.soft_entry.specs.Entry.{entering};
 ghost use Rattle.soft_gates.specs.Gate.{gated, WhenOutside};
-ghost use Rattle.machine_parts.specs.Processor.{unit_at};
+ghost use Rattle.breach_monitor.specs.SerialUnit.{unit_at};
 ghost use Rattle.bare_machine.specs.State.{Done};
 ghost use Rattle.bare_machine.specs.Unit.{int_entry, asked_entry, gate as gate_of, instruction as instruction_of, guest_unit as guest_unit_of, use_kind, access_kind, breach_kind};
 ghost use Rattle.line_kinds.specs.declared.kinds.GLine.TheVariants.{Breach as BreachLine};
@@ -68,7 +68,7 @@ fn breach_kind(breach: Breach) -> BreachKind
 }
 
 // A unit of the processor over the guest's part of the memory and COM1.
-#[tactic(auto, unfolding(machine_parts::specs::Processor::unit_at))]
+#[tactic(auto, unfolding(breach_monitor::specs::SerialUnit::unit_at))]
 fn run_unit(memory: &mut FlatMemory, registers: &mut Registers, board: &mut Board) -> GuestUnit
     ensures answer { let side = guest_side memory.old in result ≡ answer_to registers.old.eip (address_behind registers.old side) (unit_at owner.Guest registers.old side (com1_of board.old)).answer }
     ensures registers { registers.new ≡ (unit_at owner.Guest registers.old (guest_side memory.old) (com1_of board.old)).registers }

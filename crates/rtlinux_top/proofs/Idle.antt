@@ -2,7 +2,7 @@
 use Rattle.std.proofs.Common.{◌≡◌, ℕ, Bool, true, false, not, ◌&&◌, ◌||◌, ◌-◌, nat_lt, nat_le, refl, ap, List, [], ◌∷◌, ◌++◌, length, if◌then◌else◌, Option, Some, None}
 use Rattle.uart_16550.specs.SerialPort.{SerialPort, is_empty, room_of, leaving, shifted_on, shifted, first_loaded, loaded, timed}
 use Rattle.port_map.specs.Serial.{Serial}
-use Rattle.machine_parts.specs.SerialLine.{new_serial, ticked, byte_sent, received, all_received, sampled}
+use Rattle.port_map.specs.SerialLine.{new_serial, ticked, byte_sent, received, all_received, sampled}
 
 -- nothing waits to be sent, and nothing is being sent
 pub record IsIdle (p : SerialPort) : Type 0 where

@@ -12,13 +12,15 @@ use Rattle.line_kinds.specs.declared.kinds.RLine.TheVariants.{On}
 use Rattle.line_kinds.specs.declared.kinds.Who.{Who}
 use Rattle.line_kinds.specs.declared.kinds.Who.TheVariants.{Guest}
 use Rattle.port_map.specs.Serial.{Serial, rose}
-use Rattle.machine_parts.specs.Processor.{starting}
-use Rattle.machine_parts.specs.Script.{lines_of, com2_bytes}
-use Rattle.machine_parts.specs.SerialLine.{new_serial, ticked, byte_sent, all_received, sampled}
+use Rattle.cpu_state.specs.Registers.{starting}
+use Rattle.device_script.specs.Events.{lines_of, com2_bytes}
+use Rattle.port_map.specs.SerialLine.{new_serial, ticked, byte_sent, all_received, sampled}
 use Rattle.run_lines.specs.Ticks.{at_tick, stamped, lines_to}
-use Rattle.priority_schedule.specs.Pick.{first_place, pick}
-use Rattle.priority_schedule.specs.Limits.{threads_limit, fifos_limit}
-use Rattle.priority_schedule.specs.Release.{Ticking, nearest, come, after_one, released}
+use Rattle.rt_ready.specs.Order.{first_place}
+use Rattle.priority_schedule.specs.Pick.{pick}
+use Rattle.rt_constants.specs.declared.limits.TheConstants.{THREADS_LIMIT, FIFOS_LIMIT}
+use Rattle.rt_timeline.specs.Dues.{come}
+use Rattle.priority_schedule.specs.Release.{Ticking, nearest, after_one, released}
 use Rattle.priority_schedule.specs.Run.{real_after, real_lines}
 use Rattle.priority_schedule.specs.State.{RealTime, RealTimeStart, first_state}
 use Rattle.priority_schedule.specs.Tick.{begun, com2_lines, marked_with, devices, turned_to, picked, acted, real_time_tick}
@@ -35,10 +37,10 @@ idle_state side com2 on = record {
   version = 1;
   side = side;
   modules = [];
-  threads = replicate threads_limit None;
+  threads = replicate THREADS_LIMIT None;
   ready = [];
   irqs = no_lines;
-  fifos = replicate fifos_limit None;
+  fifos = replicate FIFOS_LIMIT None;
   com2 = com2;
   registers = starting 0 0 0 false;
   on = on;
@@ -80,7 +82,7 @@ devices_idle side events c on h =
     ∙ ap (λ o. record { real = idle_state side d on; lines = [] ++ com2_lines o }) (none_sent c h)
 
 -- nobody waits, so nobody is released
-nobody_waits : nearest (replicate threads_limit None) ≡ None
+nobody_waits : nearest (replicate THREADS_LIMIT None) ≡ None
 unfolding nearest
 nobody_waits = refl
 
@@ -104,8 +106,8 @@ first_tick : (side : Side) (t : ℕ) (events : List Event) (c : Serial) → IsId
 unfolding picked call_unit
 first_tick side t events c h =
     let s = resting side (stepped events c) None in
-    ap (λ s'. acted t None (picked true (released threads_limit t s'))) (devices_idle side events c None h)
-    ∙ ap (λ s'. acted t None (picked true s')) (none_released threads_limit t s nobody_waits)
+    ap (λ s'. acted t None (picked true (released THREADS_LIMIT t s'))) (devices_idle side events c None h)
+    ∙ ap (λ s'. acted t None (picked true s')) (none_released THREADS_LIMIT t s nobody_waits)
     ∙ ap (λ w. acted t None (turned_to w s)) (guest_first side (stepped events c))
 
 later_tick : (side : Side) (t : ℕ) (events : List Event) (c : Serial) → IsIdle c.port
@@ -113,8 +115,8 @@ later_tick : (side : Side) (t : ℕ) (events : List Event) (c : Serial) → IsId
 unfolding picked call_unit
 later_tick side t events c h =
     let s = resting side (stepped events c) (Some Guest) in
-    ap (λ s'. acted t None (picked true (released threads_limit t s'))) (devices_idle side events c (Some Guest) h)
-    ∙ ap (λ s'. acted t None (picked true s')) (none_released threads_limit t s nobody_waits)
+    ap (λ s'. acted t None (picked true (released THREADS_LIMIT t s'))) (devices_idle side events c (Some Guest) h)
+    ∙ ap (λ s'. acted t None (picked true s')) (none_released THREADS_LIMIT t s nobody_waits)
     ∙ ap (λ w. acted t None (turned_to w s)) (guest_stays side (stepped events c))
 
 -- COM2 after n ticks of a script

@@ -21,9 +21,10 @@ use Rattle.line_kinds.specs.declared.kinds.RLine.{RLine}
 use Rattle.line_sets.specs.LineSet.{without_line}
 use Rattle.port_map.specs.Serial.{Serial}
 use Rattle.port_map.specs.declared.owner.Owner.TheVariants.{Guest}
-use Rattle.machine_parts.specs.Processor.{unit_at}
-use Rattle.machine_parts.specs.SerialLine.{byte_sent}
-use Rattle.run_lines.specs.Calls.{Call, call_in, with_call, calls_of}
+use Rattle.breach_monitor.specs.SerialUnit.{unit_at}
+use Rattle.port_map.specs.SerialLine.{byte_sent}
+use Rattle.line_kinds.specs.Calls.{Call, call_in}
+use Rattle.run_lines.specs.Calls.{with_call, calls_of}
 use Rattle.run_lines.specs.Says.{Sight, sight}
 use Rattle.run_lines.specs.Ticks.{at_tick, stamped, lines_to}
 use Rattle.bare_machine.specs.Calls.{breached, is_served, served_by, onward}

@@ -6,8 +6,9 @@ use Rattle.line_kinds.specs.declared.kinds.GLine.TheVariants.{Com1, Put, Get}
 use Rattle.line_kinds.specs.declared.kinds.RLine.{RLine}
 use Rattle.line_kinds.specs.declared.kinds.RLine.TheVariants.{On, Gate, Fault, Reply}
 use Rattle.line_kinds.specs.declared.kinds.Who.TheVariants.{Guest, Thread, Irq}
-use Rattle.run_lines.specs.Calls.{PutCall, GetCall, calls_of, call_at}
-use Rattle.run_lines.specs.Gates.{gate_of, RequestIrq, PendIrq}
+use Rattle.line_kinds.specs.Calls.{PutCall, GetCall}
+use Rattle.run_lines.specs.Calls.{calls_of, call_at}
+use Rattle.module_gates.specs.Names.{gate_of}
 use Rattle.run_lines.specs.Says.{holder, held, pended, reply_in, is_timer_tick, asks}
 use Rattle.run_lines.specs.Ticks.{lines_to}
 
@@ -22,15 +23,6 @@ thread_holds_after_3 = refl
 guest_holds_after_4 : holder 4 picks ≡ Some Guest
 unfolding holder picks
 guest_holds_after_4 = refl
-
--- functions 18 and 22 are those of a line's request and of its mark
-request_is_18 : gate_of 18 ≡ RequestIrq
-unfolding gate_of
-request_is_18 = refl
-
-pend_is_22 : gate_of 22 ≡ PendIrq
-unfolding gate_of
-pend_is_22 = refl
 
 -- line 5 is asked for, line 7 is refused, and line 5 is given back by function 19
 requests : List (ℕ × RLine)

@@ -4,7 +4,8 @@ use Rattle.std.specs.List.{filter_map}
 use Rattle.std.proofs.lemmas.List.{append-nil}
 use Rattle.std.proofs.lemmas.List.Sums.{fold-append}
 use Rattle.std.proofs.lemmas.List.Elements.{filter_map-append}
-use Rattle.run_lines.specs.Calls.{call_in, with_call, calls_of, first_of, call_at}
+use Rattle.line_kinds.specs.Calls.{call_in}
+use Rattle.run_lines.specs.Calls.{with_call, calls_of, first_of, call_at}
 use Rattle.run_lines.specs.Says.{held_by, holder, after_owner, held, after_pend, reply_in, sight, sight_from, is_guest}
 use Rattle.run_lines.specs.Ticks.{at_tick}
 use Rattle.line_kinds.specs.declared.kinds.GLine.{GLine}

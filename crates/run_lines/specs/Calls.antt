@@ -4,16 +4,6 @@ use Rattle.run_lines.specs.Ticks.{at_tick}
 use Rattle.line_kinds.specs.declared.kinds.GLine.{GLine}
 use Rattle.line_kinds.specs.declared.kinds.GLine.TheVariants.{Put, Get}
 
--- a put of bytes into a FIFO, or a get of at most so many
-pub data Call : Type 0 where
-  PutCall : (fifo : ℕ) (bytes : List ℕ) → Call
-  GetCall : (fifo count : ℕ) → Call
-
-abbrev pub call_in : GLine → Option Call
-call_in (Put fifo bytes) = Some (PutCall fifo bytes)
-call_in (Get fifo count) = Some (GetCall fifo count)
-call_in _ = None
-
 abbrev pub with_call : ℕ → Option Call → List (ℕ × Call) → List (ℕ × Call)
 with_call t None calls = calls
 with_call t (Some call) calls = (t, call) ∷ calls

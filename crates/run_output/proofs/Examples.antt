@@ -6,7 +6,7 @@ use Rattle.line_kinds.specs.declared.kinds.HLine.TheVariants.{Ack}
 use Rattle.line_kinds.specs.declared.kinds.Line.TheVariants.{R, G, H}
 use Rattle.line_kinds.specs.declared.kinds.RLine.{RLine}
 use Rattle.line_kinds.specs.declared.kinds.RLine.TheVariants.{Ret, End}
-use Rattle.run_lines.specs.Calls.{Call}
+use Rattle.line_kinds.specs.Calls.{Call}
 use Rattle.run_lines.specs.Ticks.{IsPrefixOf, lines_to}
 use Rattle.run_lines.proofs.Longer.{longer}
 use Rattle.bare_machine.specs.Run.{bare_lines}

@@ -7,7 +7,7 @@ use Rattle.line_kinds.specs.declared.kinds.HLine.{HLine}
 use Rattle.line_kinds.specs.declared.kinds.Line.{Line}
 use Rattle.line_kinds.specs.declared.kinds.Line.TheVariants.{R, G, H}
 use Rattle.line_kinds.specs.declared.kinds.RLine.{RLine}
-use Rattle.run_lines.specs.Calls.{Call}
+use Rattle.line_kinds.specs.Calls.{Call}
 use Rattle.bare_machine.specs.Run.{bare}
 use Rattle.bare_machine.specs.State.{GuestStart}
 use Rattle.priority_schedule.specs.Run.{real_time}

@@ -3,7 +3,7 @@ use Rattle.std.specs.Prelude.{ℕ, Bool, List}
 use Rattle.device_script.specs.declared.event.Event.{Event}
 use Rattle.line_kinds.specs.declared.kinds.Line.{Line}
 use Rattle.line_kinds.specs.declared.kinds.RLine.{RLine}
-use Rattle.run_lines.specs.Calls.{Call}
+use Rattle.line_kinds.specs.Calls.{Call}
 use Rattle.bare_machine.specs.Run.{bare_after, bare_end, bare_lines}
 use Rattle.bare_machine.specs.State.{GuestStart}
 use Rattle.priority_schedule.specs.Run.{real_after, real_end, real_lines}

@@ -1,15 +1,17 @@
 -- What the guest sees in a tick: nothing of the lines before the unit but who is on.
 use Rattle.std.proofs.Common.{◌≡◌, ℕ, zero, suc, Bool, true, false, refl, ap, ◌∙◌, List, [], ◌∷◌, ◌++◌, append_assoc, if◌then◌else◌, Option, Some, None, fold}
 use Rattle.std.proofs.lemmas.List.Sums.{fold-append}
-use Rattle.machine_parts.specs.SerialLine.{byte_sent}
+use Rattle.port_map.specs.SerialLine.{byte_sent}
 use Rattle.device_script.specs.declared.event.Event.{Event}
 use Rattle.priority_schedule.specs.Pick.{pick}
-use Rattle.priority_schedule.specs.Limits.{threads_limit}
-use Rattle.priority_schedule.specs.Release.{Ticking, Due, nearest, come, after_one, released, drained, drains}
+use Rattle.rt_constants.specs.declared.limits.TheConstants.{THREADS_LIMIT}
+use Rattle.rt_timeline.specs.declared.timeline.ThreadDue.{ThreadDue}
+use Rattle.rt_timeline.specs.Dues.{come}
+use Rattle.priority_schedule.specs.Release.{Ticking, nearest, after_one, released, drained, drains}
 use Rattle.priority_schedule.specs.State.{RealTime}
 use Rattle.priority_schedule.specs.Tick.{begun, com2_lines, after_devices, devices, is_on, started, turned_to, picked, opened, real_time_tick}
 use Rattle.priority_schedule.specs.Unit.{unit_of}
-use Rattle.run_lines.specs.Calls.{Call}
+use Rattle.line_kinds.specs.Calls.{Call}
 use Rattle.run_lines.specs.Says.{after_pend, pended, reply_in}
 use Rattle.line_kinds.specs.declared.kinds.RLine.{RLine}
 use Rattle.line_kinds.specs.declared.kinds.RLine.TheVariants.{On, Release}
@@ -24,7 +26,7 @@ com2_calm : (m : RealTime) (o : Option ℕ) → Calm (record { real = m; lines =
 com2_calm m None = record { pends = λ p. refl; replies = λ xs. refl }
 com2_calm m (Some b) = record { pends = λ p. refl; replies = λ xs. refl }
 
-one_calm : (o : Option Due) (s : Ticking) → Calm s → Calm (after_one o s)
+one_calm : (o : Option ThreadDue) (s : Ticking) → Calm s → Calm (after_one o s)
 one_calm None s h = h
 one_calm (Some d) s h = record {
   pends = λ p. fold-append after_pend p s.lines (Release d.id ∷ []) ∙ h.pends p;
@@ -47,7 +49,7 @@ turned_calm who s h = if_calm (is_on who s.real.on) s (record { real = record (s
 })
 
 drained_calm : (draining : Bool) (t : ℕ) (s : Ticking) → Calm s → Calm (drained draining t s)
-drained_calm draining t s h = if_calm draining (released threads_limit t s) s (released_calm threads_limit t s h) h
+drained_calm draining t s h = if_calm draining (released THREADS_LIMIT t s) s (released_calm THREADS_LIMIT t s h) h
 
 pub opened_calm : (t : ℕ) (events : List Event) (m : RealTime) → Calm (opened t events m)
 unfolding picked devices

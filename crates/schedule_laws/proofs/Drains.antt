@@ -5,12 +5,15 @@ use Rattle.device_script.specs.declared.event.Event.{Event}
 use Rattle.line_kinds.specs.declared.kinds.RLine.TheVariants.{On}
 use Rattle.line_kinds.specs.declared.kinds.Who.{Who}
 use Rattle.line_kinds.specs.declared.kinds.Who.TheVariants.{Guest, Thread as ThreadOn, Init, Irq, Fifo as FifoOn}
-use Rattle.run_lines.specs.Calls.{Call, call_at}
+use Rattle.line_kinds.specs.Calls.{Call}
+use Rattle.run_lines.specs.Calls.{call_at}
 use Rattle.run_lines.specs.Ticks.{at_tick}
 use Rattle.priority_schedule.specs.Pick.{pick, pick_after}
 use Rattle.priority_schedule.specs.Release.{Ticking, drained, drains, drains_at}
 use Rattle.priority_schedule.specs.Run.{real_after}
-use Rattle.priority_schedule.specs.State.{RealTime, RealTimeStart, first_state, is_ready, priority_of}
+use Rattle.rt_ready.specs.Order.{is_ready}
+use Rattle.rt_threads.specs.Threads.{priority_of}
+use Rattle.priority_schedule.specs.State.{RealTime, RealTimeStart, first_state}
 use Rattle.priority_schedule.specs.Tick.{begun, devices, is_on, started, turned_to, picked, opened, stays, real_time_tick}
 use Rattle.priority_schedule.specs.Unit.{RealUnit, unit_of}
 use Rattle.schedule_laws.proofs.PickFirst.{none_first}

@@ -18,21 +18,27 @@ use Rattle.line_kinds.specs.declared.kinds.RLine.TheVariants.{On, Release}
 use Rattle.line_kinds.specs.declared.kinds.Who.{Who}
 use Rattle.line_kinds.specs.declared.kinds.Who.TheVariants.{Guest, Thread as ThreadOn, Init, Irq, Fifo as FifoOn}
 use Rattle.side_digest.specs.Digest.{digest}
-use Rattle.machine_parts.specs.Ranges.{first_outside}
-use Rattle.machine_parts.specs.SerialLine.{byte_sent}
-use Rattle.run_lines.specs.Calls.{Call, PutCall, GetCall, call_at}
-use Rattle.run_lines.specs.Gates.{GateName, Gethrtime, PthreadCreate, PthreadDelete, PthreadSuspend, PthreadWakeup, PthreadMakePeriodic, PthreadWait, PthreadSelf, PthreadSetprio, PthreadGetprio, FifoCreate, FifoDestroy, FifoPut, FifoGet, FifoFlush, FifoCreateHandler, FifoCount, RequestIrq, FreeIrq, GetSoftIrq, FreeSoftIrq, PendIrq, Nanosleep, Print, Other, gate_of}
+use Rattle.memory_model.specs.Side.{first_outside}
+use Rattle.port_map.specs.SerialLine.{byte_sent}
+use Rattle.line_kinds.specs.Calls.{Call, PutCall, GetCall}
+use Rattle.run_lines.specs.Calls.{call_at}
+use Rattle.module_gates.specs.declared.names.GateName.{GateName}
+use Rattle.module_gates.specs.declared.names.GateName.TheVariants.{Gethrtime, PthreadCreate, PthreadDelete, PthreadSuspend, PthreadWakeup, PthreadMakePeriodic, PthreadWait, PthreadSelf, PthreadSetprio, PthreadGetprio, FifoCreate, FifoDestroy, FifoPut, FifoGet, FifoFlush, FifoCreateHandler, FifoCount, RequestIrq, FreeIrq, GetSoftIrq, FreeSoftIrq, PendIrq, Nanosleep, Print, Other}
+use Rattle.module_gates.specs.Names.{gate_of}
 use Rattle.run_lines.specs.Says.{after_line_gate, after_line_result, after_owner, held}
 use Rattle.run_lines.specs.Ticks.{at_tick}
-use Rattle.priority_schedule.specs.Due.{Thread, Ready, with_state}
-use Rattle.priority_schedule.specs.Errors.{einval, ebusy}
-use Rattle.priority_schedule.specs.Fifos.{Fifo, fifo_at}
-use Rattle.priority_schedule.specs.Gates.{Request, Answered, fails, succeeds, created, woken, waited, on_fifo, deleted, suspended, waiting, with_period, is_span, with_next, with_priority, new_fifo, with_fifo, gate_row, Range, range_of, gate_in}
+use Rattle.rt_threads.specs.declared.threads.State.TheVariants.{Ready, Waiting}
+use Rattle.rt_threads.specs.Threads.{with_state, with_period, is_plan, is_priority, with_next, with_priority, thread_at, with_thread, priority_of, free_number}
+use Rattle.rt_constants.specs.declared.errors.TheConstants.{EINVAL}
+use Rattle.module_gates.specs.Gates.{Request, GateParts, Answered, fails, succeeds, created, left, woken, deleted, suspended, gate_row, Range, range_of, gate_in}
 use Rattle.priority_schedule.specs.Pick.{pick}
-use Rattle.priority_schedule.specs.Limits.{threads_limit, highest_priority}
-use Rattle.priority_schedule.specs.Release.{Ticking, Due, nearest, come, after_one, released, drained, drains}
+use Rattle.rt_constants.specs.declared.limits.TheConstants.{THREADS_LIMIT}
+use Rattle.rt_timeline.specs.declared.timeline.ThreadDue.{ThreadDue}
+use Rattle.rt_timeline.specs.Dues.{come}
+use Rattle.priority_schedule.specs.Release.{Ticking, nearest, after_one, released, drained, drains}
 use Rattle.priority_schedule.specs.Run.{real_after, real_lines, real_end, real_time}
-use Rattle.priority_schedule.specs.State.{RealTime, RealTimeStart, first_state, thread_at, is_ready, with_thread, without, joined, priority_of}
+use Rattle.rt_ready.specs.Order.{is_ready, joined}
+use Rattle.priority_schedule.specs.State.{RealTime, RealTimeStart, first_state, parts_of, with_parts}
 use Rattle.priority_schedule.specs.Tick.{begun, com2_lines, after_devices, devices, is_on, started, turned_to, picked, opened, real_time_tick}
 use Rattle.priority_schedule.specs.Unit.{RealUnit, with_registers, with_com2, performed_unit, fault_unit, return_unit, gate_answer, gate_line, printed_lines, call_unit, unit_of}
 use Rattle.run_lines.proofs.Seen.{IsAt, held-next}
@@ -85,9 +91,9 @@ holds_free handlers lines line free h = record {
 same_handlers : (a b : List (Option ℕ)) (lines : ℕ) → b ≡ a → Holds a lines → Holds b lines
 same_handlers a b lines e h = subst (λ xs. Holds xs lines) (sym e) h
 
-either_held : (m : RealTime) (b : Bool) (x y : Answered) → x.after.irqs.entries ≡ m.irqs.entries → y.after.irqs.entries ≡ m.irqs.entries → (if b then x else y).after.irqs.entries ≡ m.irqs.entries
-either_held m true x y p q = p
-either_held m false x y p q = q
+either_held : (p : GateParts) (b : Bool) (x y : Answered) → x.after.irqs.entries ≡ p.irqs.entries → y.after.irqs.entries ≡ p.irqs.entries → (if b then x else y).after.irqs.entries ≡ p.irqs.entries
+either_held p true x y e f = e
+either_held p false x y e f = f
 
 -- the gates that leave the held lines alone
 abbrev Leaves : GateName → Type 0
@@ -95,20 +101,12 @@ Leaves RequestIrq = ⊥
 Leaves FreeIrq = ⊥
 Leaves _ = Unit {0}
 
-created_held : (t : ℕ) (q : Request) (m : RealTime) (o : Option ℕ) → (created t q m o).after.irqs.entries ≡ m.irqs.entries
-created_held t q m None = refl
-created_held t q m (Some i) = refl
+created_held : (t : ℕ) (q : Request) (p : GateParts) (o : Option ℕ) → (created t q p o).after.irqs.entries ≡ p.irqs.entries
+created_held t q p None = refl
+created_held t q p (Some i) = refl
 
-woken_held : (t i : ℕ) (m : RealTime) → (woken t i m).irqs.entries ≡ m.irqs.entries
-woken_held t i m = elim (is_ready i m.ready) as (λ b. (if b then m else record m { threads = with_thread i (with_state Ready) m.threads; ready = joined i t m.ready }).irqs.entries ≡ m.irqs.entries) [ true ↦ refl | false ↦ refl ]
-
-waited_held : (i : ℕ) (m : RealTime) (o : Option Thread) → (waited i m o).after.irqs.entries ≡ m.irqs.entries
-waited_held i m None = refl
-waited_held i m (Some th) = either_held m _ (fails einval m) (succeeds 0 (record m { threads = with_thread i with_next m.threads; ready = without i m.ready })) refl refl
-
-fifo_held : (m : RealTime) (o : Option Fifo) (f : Fifo → Answered) → ((fifo : Fifo) → (f fifo).after.irqs.entries ≡ m.irqs.entries) → (on_fifo o m f).after.irqs.entries ≡ m.irqs.entries
-fifo_held m None f h = refl
-fifo_held m (Some fifo) f h = h fifo
+woken_held : (t i : ℕ) (p : GateParts) → (woken t i p).irqs.entries ≡ p.irqs.entries
+woken_held t i p = elim (is_ready i p.ready) as (λ b. (if b then p else record p { threads = with_thread i (with_state Ready) p.threads; ready = joined i t p.ready }).irqs.entries ≡ p.irqs.entries) [ true ↦ refl | false ↦ refl ]
 
 soft_held : (irqs : Lines) (o : Option ℕ) → (line_taken o irqs).entries ≡ irqs.entries
 soft_held irqs None = refl
@@ -117,50 +115,48 @@ soft_held irqs (Some line) = refl
 given_back_held : (irqs : Lines) (line : ℕ) → (soft_freed irqs line).entries ≡ irqs.entries
 given_back_held irqs line = elim (has irqs.soft line) as (λ b. (if b then record irqs { soft = without_line irqs.soft line } else irqs).entries ≡ irqs.entries) [ true ↦ refl | false ↦ refl ]
 
-row_held : (t : ℕ) (who : Who) (q : Request) (m : RealTime) (g : GateName) → Leaves g → (gate_row t who q m g).after.irqs.entries ≡ m.irqs.entries
-row_held t who q m Gethrtime l = refl
-row_held t who q m PthreadCreate l = either_held m _ (fails einval m) (created t q m (position is_none m.threads)) refl (created_held t q m (position is_none m.threads))
-row_held t who q m PthreadDelete l = either_held m _ (succeeds 0 (deleted q.ebx m)) (fails einval m) refl refl
-row_held t who q m PthreadSuspend l = either_held m _ (succeeds 0 (suspended q.ebx m)) (fails einval m) refl refl
-row_held t who q m PthreadWakeup l = either_held m _ (succeeds 0 (woken t q.ebx m)) (fails einval m) (woken_held t q.ebx m) refl
-row_held t who q m PthreadMakePeriodic l =
-    let done : Answered = succeeds 0 (record m { threads = with_thread q.ebx (with_period q.ecx q.edx) m.threads; ready = without q.ebx m.ready }) in
-    either_held m _ (if is_span q.edx && nat_le q.ecx 2000000000 then done else fails einval m) (fails einval m) (either_held m _ done (fails einval m) refl refl) refl
-row_held t (ThreadOn i) q m PthreadWait l = waited_held i m (thread_at m.threads i)
-row_held t Guest q m PthreadWait l = refl
-row_held t (Init i) q m PthreadWait l = refl
-row_held t (Irq i) q m PthreadWait l = refl
-row_held t (FifoOn i) q m PthreadWait l = refl
-row_held t (ThreadOn i) q m PthreadSelf l = refl
-row_held t Guest q m PthreadSelf l = refl
-row_held t (Init i) q m PthreadSelf l = refl
-row_held t (Irq i) q m PthreadSelf l = refl
-row_held t (FifoOn i) q m PthreadSelf l = refl
-row_held t who q m PthreadSetprio l =
-    let done : Answered = succeeds 0 (record m { threads = with_thread q.ebx (with_priority q.ecx) m.threads }) in
-    either_held m _ (if nat_lt highest_priority q.ecx then fails einval m else done) (fails einval m) (either_held m _ (fails einval m) done refl refl) refl
-row_held t who q m PthreadGetprio l = either_held m _ (succeeds (priority_of m.threads q.ebx) m) (fails einval m) refl refl
-row_held t who q m FifoCreate l =
-    let done : Answered = succeeds 0 (with_fifo q.ebx (Some (new_fifo q.ecx)) m) in
-    either_held m _ (fails einval m) (if is_some (fifo_at m.fifos q.ebx) then fails ebusy m else done) refl (either_held m _ (fails ebusy m) done refl refl)
-row_held t who q m FifoDestroy l = fifo_held m (fifo_at m.fifos q.ebx) _ (λ fifo. refl)
-row_held t who q m FifoPut l = refl
-row_held t who q m FifoGet l = refl
-row_held t who q m FifoFlush l = fifo_held m (fifo_at m.fifos q.ebx) _ (λ fifo. refl)
-row_held t who q m FifoCreateHandler l = fifo_held m (fifo_at m.fifos q.ebx) _ (λ fifo. refl)
-row_held t who q m FifoCount l = fifo_held m (fifo_at m.fifos q.ebx) _ (λ fifo. refl)
-row_held t who q m RequestIrq l = absurd l
-row_held t who q m FreeIrq l = absurd l
-row_held t who q m GetSoftIrq l = soft_held m.irqs (free_soft_line m.irqs.soft)
-row_held t who q m FreeSoftIrq l = given_back_held m.irqs q.ebx
-row_held t who q m PendIrq l = either_held m _ (succeeds 0 m) (fails einval m) refl refl
-row_held t (ThreadOn i) q m Nanosleep l = either_held m _ (succeeds 0 (waiting i (t + q.ebx) m)) (fails einval m) refl refl
-row_held t Guest q m Nanosleep l = refl
-row_held t (Init i) q m Nanosleep l = refl
-row_held t (Irq i) q m Nanosleep l = refl
-row_held t (FifoOn i) q m Nanosleep l = refl
-row_held t who q m Print l = refl
-row_held t who q m Other l = refl
+row_held : (t : ℕ) (who : Who) (q : Request) (p : GateParts) (g : GateName) → Leaves g → (gate_row t who q p g).after.irqs.entries ≡ p.irqs.entries
+row_held t who q p Gethrtime l = refl
+row_held t who q p PthreadCreate l = either_held p _ (created t q p (free_number p.threads)) (fails EINVAL p) (created_held t q p (free_number p.threads)) refl
+row_held t who q p PthreadDelete l = either_held p _ (succeeds 0 (deleted q.ebx p)) (fails EINVAL p) refl refl
+row_held t who q p PthreadSuspend l = either_held p _ (succeeds 0 (suspended q.ebx p)) (fails EINVAL p) refl refl
+row_held t who q p PthreadWakeup l = either_held p _ (succeeds 0 (woken t q.ebx p)) (fails EINVAL p) (woken_held t q.ebx p) refl
+row_held t who q p PthreadMakePeriodic l =
+    let done : Answered = succeeds 0 (left q.ebx (with_period q.ecx q.edx) p) in
+    either_held p _ (if is_plan q.ecx q.edx then done else fails EINVAL p) (fails EINVAL p) (either_held p _ done (fails EINVAL p) refl refl) refl
+row_held t (ThreadOn i) q p PthreadWait l = either_held p _ (succeeds 0 (left i with_next p)) (fails EINVAL p) refl refl
+row_held t Guest q p PthreadWait l = refl
+row_held t (Init i) q p PthreadWait l = refl
+row_held t (Irq i) q p PthreadWait l = refl
+row_held t (FifoOn i) q p PthreadWait l = refl
+row_held t (ThreadOn i) q p PthreadSelf l = refl
+row_held t Guest q p PthreadSelf l = refl
+row_held t (Init i) q p PthreadSelf l = refl
+row_held t (Irq i) q p PthreadSelf l = refl
+row_held t (FifoOn i) q p PthreadSelf l = refl
+row_held t who q p PthreadSetprio l =
+    let done : Answered = succeeds 0 (record p { threads = with_thread q.ebx (with_priority q.ecx) p.threads }) in
+    either_held p _ (if is_priority q.ecx then done else fails EINVAL p) (fails EINVAL p) (either_held p _ done (fails EINVAL p) refl refl) refl
+row_held t who q p PthreadGetprio l = either_held p _ (succeeds (priority_of p.threads q.ebx) p) (fails EINVAL p) refl refl
+row_held t who q p FifoCreate l = refl
+row_held t who q p FifoDestroy l = refl
+row_held t who q p FifoPut l = refl
+row_held t who q p FifoGet l = refl
+row_held t who q p FifoFlush l = refl
+row_held t who q p FifoCreateHandler l = refl
+row_held t who q p FifoCount l = refl
+row_held t who q p RequestIrq l = absurd l
+row_held t who q p FreeIrq l = absurd l
+row_held t who q p GetSoftIrq l = soft_held p.irqs (free_soft_line p.irqs.soft)
+row_held t who q p FreeSoftIrq l = given_back_held p.irqs q.ebx
+row_held t who q p PendIrq l = either_held p _ (succeeds 0 p) (fails EINVAL p) refl refl
+row_held t (ThreadOn i) q p Nanosleep l = either_held p _ (succeeds 0 (left i (with_state (Waiting (t + q.ebx))) p)) (fails EINVAL p) refl refl
+row_held t Guest q p Nanosleep l = refl
+row_held t (Init i) q p Nanosleep l = refl
+row_held t (Irq i) q p Nanosleep l = refl
+row_held t (FifoOn i) q p Nanosleep l = refl
+row_held t who q p Print l = refl
+row_held t who q p Other l = refl
 
 -- and their lines say nothing of them
 quiet_result : (g : GateName) (line lines : ℕ) (v : ℤ) → after_line_gate g line lines ≡ lines → after_line_result g line lines v ≡ lines
@@ -171,10 +167,10 @@ quiet_result g line lines (negsuc n) e = refl
 abbrev pub RowHolds : Request → ℕ → GateName → Answered → Type 0
 RowHolds q lines g a = Holds a.after.irqs.entries (after_line_result g q.ebx lines a.result)
 
-leaving : (t : ℕ) (who : Who) (q : Request) (m : RealTime) (lines : ℕ) (g : GateName) → Leaves g → after_line_gate g q.ebx lines ≡ lines → Holds m.irqs.entries lines → RowHolds q lines g (gate_row t who q m g)
-leaving t who q m lines g l e h =
-    let a = gate_row t who q m g in
-    subst (λ n. Holds a.after.irqs.entries n) (sym (quiet_result g q.ebx lines a.result e)) (same_handlers m.irqs.entries a.after.irqs.entries lines (row_held t who q m g l) h)
+leaving : (t : ℕ) (who : Who) (q : Request) (p : GateParts) (lines : ℕ) (g : GateName) → Leaves g → after_line_gate g q.ebx lines ≡ lines → Holds p.irqs.entries lines → RowHolds q lines g (gate_row t who q p g)
+leaving t who q p lines g l e h =
+    let a = gate_row t who q p g in
+    subst (λ n. Holds a.after.irqs.entries n) (sym (quiet_result g q.ebx lines a.result e)) (same_handlers p.irqs.entries a.after.irqs.entries lines (row_held t who q p g l) h)
 
 either_holds : (P : Answered → Type 0) (b : Bool) (x y : Answered) → (b ≡ true → P x) → (b ≡ false → P y) → P (if b then x else y)
 either_holds P true x y p q = p refl
@@ -202,32 +198,32 @@ free_holds irqs lines line h =
       | false ↦ h
     ]
 
-row_holds : (t : ℕ) (who : Who) (q : Request) (m : RealTime) (lines : ℕ) (g : GateName) → Holds m.irqs.entries lines → RowHolds q lines g (gate_row t who q m g)
-row_holds t who q m lines RequestIrq h = request_holds q m.irqs lines h
-row_holds t who q m lines FreeIrq h = free_holds m.irqs lines q.ebx h
-row_holds t who q m lines Gethrtime h = leaving t who q m lines Gethrtime tt refl h
-row_holds t who q m lines PthreadCreate h = leaving t who q m lines PthreadCreate tt refl h
-row_holds t who q m lines PthreadDelete h = leaving t who q m lines PthreadDelete tt refl h
-row_holds t who q m lines PthreadSuspend h = leaving t who q m lines PthreadSuspend tt refl h
-row_holds t who q m lines PthreadWakeup h = leaving t who q m lines PthreadWakeup tt refl h
-row_holds t who q m lines PthreadMakePeriodic h = leaving t who q m lines PthreadMakePeriodic tt refl h
-row_holds t who q m lines PthreadWait h = leaving t who q m lines PthreadWait tt refl h
-row_holds t who q m lines PthreadSelf h = leaving t who q m lines PthreadSelf tt refl h
-row_holds t who q m lines PthreadSetprio h = leaving t who q m lines PthreadSetprio tt refl h
-row_holds t who q m lines PthreadGetprio h = leaving t who q m lines PthreadGetprio tt refl h
-row_holds t who q m lines FifoCreate h = leaving t who q m lines FifoCreate tt refl h
-row_holds t who q m lines FifoDestroy h = leaving t who q m lines FifoDestroy tt refl h
-row_holds t who q m lines FifoPut h = leaving t who q m lines FifoPut tt refl h
-row_holds t who q m lines FifoGet h = leaving t who q m lines FifoGet tt refl h
-row_holds t who q m lines FifoFlush h = leaving t who q m lines FifoFlush tt refl h
-row_holds t who q m lines FifoCreateHandler h = leaving t who q m lines FifoCreateHandler tt refl h
-row_holds t who q m lines FifoCount h = leaving t who q m lines FifoCount tt refl h
-row_holds t who q m lines GetSoftIrq h = leaving t who q m lines GetSoftIrq tt refl h
-row_holds t who q m lines FreeSoftIrq h = leaving t who q m lines FreeSoftIrq tt refl h
-row_holds t who q m lines PendIrq h = leaving t who q m lines PendIrq tt refl h
-row_holds t who q m lines Nanosleep h = leaving t who q m lines Nanosleep tt refl h
-row_holds t who q m lines Print h = leaving t who q m lines Print tt refl h
-row_holds t who q m lines Other h = leaving t who q m lines Other tt refl h
+row_holds : (t : ℕ) (who : Who) (q : Request) (p : GateParts) (lines : ℕ) (g : GateName) → Holds p.irqs.entries lines → RowHolds q lines g (gate_row t who q p g)
+row_holds t who q p lines RequestIrq h = request_holds q p.irqs lines h
+row_holds t who q p lines FreeIrq h = free_holds p.irqs lines q.ebx h
+row_holds t who q p lines Gethrtime h = leaving t who q p lines Gethrtime tt refl h
+row_holds t who q p lines PthreadCreate h = leaving t who q p lines PthreadCreate tt refl h
+row_holds t who q p lines PthreadDelete h = leaving t who q p lines PthreadDelete tt refl h
+row_holds t who q p lines PthreadSuspend h = leaving t who q p lines PthreadSuspend tt refl h
+row_holds t who q p lines PthreadWakeup h = leaving t who q p lines PthreadWakeup tt refl h
+row_holds t who q p lines PthreadMakePeriodic h = leaving t who q p lines PthreadMakePeriodic tt refl h
+row_holds t who q p lines PthreadWait h = leaving t who q p lines PthreadWait tt refl h
+row_holds t who q p lines PthreadSelf h = leaving t who q p lines PthreadSelf tt refl h
+row_holds t who q p lines PthreadSetprio h = leaving t who q p lines PthreadSetprio tt refl h
+row_holds t who q p lines PthreadGetprio h = leaving t who q p lines PthreadGetprio tt refl h
+row_holds t who q p lines FifoCreate h = leaving t who q p lines FifoCreate tt refl h
+row_holds t who q p lines FifoDestroy h = leaving t who q p lines FifoDestroy tt refl h
+row_holds t who q p lines FifoPut h = leaving t who q p lines FifoPut tt refl h
+row_holds t who q p lines FifoGet h = leaving t who q p lines FifoGet tt refl h
+row_holds t who q p lines FifoFlush h = leaving t who q p lines FifoFlush tt refl h
+row_holds t who q p lines FifoCreateHandler h = leaving t who q p lines FifoCreateHandler tt refl h
+row_holds t who q p lines FifoCount h = leaving t who q p lines FifoCount tt refl h
+row_holds t who q p lines GetSoftIrq h = leaving t who q p lines GetSoftIrq tt refl h
+row_holds t who q p lines FreeSoftIrq h = leaving t who q p lines FreeSoftIrq tt refl h
+row_holds t who q p lines PendIrq h = leaving t who q p lines PendIrq tt refl h
+row_holds t who q p lines Nanosleep h = leaving t who q p lines Nanosleep tt refl h
+row_holds t who q p lines Print h = leaving t who q p lines Print tt refl h
+row_holds t who q p lines Other h = leaving t who q p lines Other tt refl h
 
 abbrev IfHolds : Request → ℕ → GateName → Option Answered → Type 0
 IfHolds q lines g None = Unit {0}
@@ -237,11 +233,11 @@ either_option : (P : Option Answered → Type 0) (b : Bool) (x y : Option Answer
 either_option P true x y p q = p
 either_option P false x y p q = q
 
-range_holds : (t : ℕ) (who : Who) (q : Request) (m : RealTime) (lines : ℕ) (g : GateName) (range : Option Range) → Holds m.irqs.entries lines → IfHolds q lines g (gate_in t who q m g range)
-range_holds t who q m lines g None h = row_holds t who q m lines g h
-range_holds t who q m lines g (Some range) h =
-    either_option (IfHolds q lines g) _ (Some (fails einval m)) (if is_some (first_outside m.side range.place range.count) then None else Some (gate_row t who q m g))
-    h (either_option (IfHolds q lines g) _ None (Some (gate_row t who q m g)) tt (row_holds t who q m lines g h))
+range_holds : (t : ℕ) (who : Who) (q : Request) (p : GateParts) (lines : ℕ) (g : GateName) (range : Option Range) → Holds p.irqs.entries lines → IfHolds q lines g (gate_in t who q p g range)
+range_holds t who q p lines g None h = row_holds t who q p lines g h
+range_holds t who q p lines g (Some range) h =
+    either_option (IfHolds q lines g) _ (Some (fails EINVAL p)) (if is_some (first_outside p.side range.place range.count) then None else Some (gate_row t who q p g))
+    h (either_option (IfHolds q lines g) _ None (Some (gate_row t who q p g)) tt (row_holds t who q p lines g h))
 
 -- units
 
@@ -283,15 +279,16 @@ printed_holds q lines v (Some bytes) = refl
 gated_holds : (who : Who) (registers : Registers) (q : Request) (m : RealTime) (lines : ℕ) (a : Option Answered) → Holds m.irqs.entries lines → IfHolds q lines (gate_of q.function) a → UnitHolds lines (gate_answer who registers q m a)
 gated_holds who registers q m lines None h k = faulted_holds who _ m lines h
 gated_holds who registers q m lines (Some a) h k =
-    subst (λ n. Holds (with_registers who (with_eax (cast_unsigned w32 a.result) registers) a.after).irqs.entries n) (sym (printed_holds q lines a.result a.printed))
-    (same_handlers a.after.irqs.entries _ _ (registers_held who (with_eax (cast_unsigned w32 a.result) registers) a.after) k)
+    let after : RealTime = with_parts a.after m in
+    subst (λ n. Holds (with_registers who (with_eax (cast_unsigned w32 a.result) registers) after).irqs.entries n) (sym (printed_holds q lines a.result a.printed))
+    (same_handlers a.after.irqs.entries _ _ (registers_held who (with_eax (cast_unsigned w32 a.result) registers) after) k)
 
 holds_kinds : (t : ℕ) (who : Who) (m : RealTime) (lines : ℕ) → Holds m.irqs.entries lines → Kinds t who m (UnitHolds lines)
 holds_kinds t who m lines h = record {
   performing = λ e. performed_holds who e m lines h;
   faulting = λ kind. faulted_holds who kind m lines h;
   returning = returned_holds who m lines h;
-  gating = λ registers q. gated_holds who registers q m lines _ h (range_holds t who q m lines (gate_of q.function) (range_of q (gate_of q.function)) h);
+  gating = λ registers q. gated_holds who registers q m lines _ h (range_holds t who q (parts_of m) lines (gate_of q.function) (range_of q (gate_of q.function)) h);
 }
 
 guest_holds : (call : Option Call) (m : RealTime) (lines : ℕ) → Holds m.irqs.entries lines → UnitHolds lines (call_unit call m)
@@ -317,7 +314,7 @@ com2_holds : (lines : ℕ) (m : RealTime) (o : Option ℕ) → Holds m.irqs.entr
 com2_holds lines m None h = h
 com2_holds lines m (Some b) h = h
 
-after_one_holds : (lines : ℕ) (o : Option Due) (s : Ticking) → TickHolds lines s → TickHolds lines (after_one o s)
+after_one_holds : (lines : ℕ) (o : Option ThreadDue) (s : Ticking) → TickHolds lines s → TickHolds lines (after_one o s)
 after_one_holds lines None s h = h
 after_one_holds lines (Some d) s h = subst (λ n. Holds s.real.irqs.entries n) (sym (fold-append after_owner lines s.lines (Release d.id ∷ []))) h
 
@@ -343,7 +340,7 @@ turned_holds lines who s h =
     (subst (λ n. Holds (started who s.real).irqs.entries n) (sym (fold-append after_owner lines s.lines (On who ∷ []))) (same_handlers s.real.irqs.entries _ _ (started_held who s.real) h))
 
 drained_holds : (lines : ℕ) (draining : Bool) (t : ℕ) (s : Ticking) → TickHolds lines s → TickHolds lines (drained draining t s)
-drained_holds lines draining t s h = if_ticking (TickHolds lines) draining (released threads_limit t s) s (released_holds lines threads_limit t s h) h
+drained_holds lines draining t s h = if_ticking (TickHolds lines) draining (released THREADS_LIMIT t s) s (released_holds lines THREADS_LIMIT t s h) h
 
 opened_holds : (lines t : ℕ) (events : List Event) (m : RealTime) → Holds m.irqs.entries lines → TickHolds lines (opened t events m)
 unfolding picked devices

@@ -2,9 +2,9 @@
 use Rattle.std.proofs.Common.{◌≡◌, ℕ, ◌≤◌, Bool, true, false, not, ◌||◌, ◌&&◌, cond, ◌==◌, eqb, nat_lt, refl, sym, ap, ◌∙◌, arith, List, [], ◌∷◌, map, Option, Some, None, find, option_map, subst}
 use Rattle.std.specs.List.{list_any}
 use Rattle.std.proofs.lemmas.Bool.Decides.{nat_tests}
-use Rattle.priority_schedule.specs.Pick.{place_of, places, goes_before as place_before, first_place, Place}
+use Rattle.rt_ready.specs.Order.{place_of, places, goes_before as place_before, first_place, Arrival, is_ready}
+use Rattle.rt_ready.specs.declared.ready.Place.{Place}
 use Rattle.priority_schedule.specs.Priority.{is_in}
-use Rattle.priority_schedule.specs.State.{Arrival, is_ready}
 use Rattle.schedule_laws.proofs.Reading.{ids}
 
 -- arrivals with their priorities

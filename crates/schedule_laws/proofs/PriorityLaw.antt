@@ -9,17 +9,24 @@ use Rattle.rt_irqs.specs.Irqs.{next_of}
 use Rattle.side_digest.specs.Digest.{digest}
 use Rattle.device_script.specs.declared.event.Event.{Event}
 use Rattle.cpu_state.specs.declared.registers.Registers.{Registers}
-use Rattle.priority_schedule.specs.Gates.{Request, Answered}
-use Rattle.priority_schedule.specs.Pick.{pick, pick_after, next_activity, next_module, first_of_all, first_ready, is_marked, Place}
+use Rattle.module_gates.specs.Gates.{Request, Answered}
+use Rattle.rt_fifos.specs.Fifos.{next_marked}
+use Rattle.rt_ready.specs.declared.ready.Place.{Place}
+use Rattle.priority_schedule.specs.Pick.{pick, pick_after, next_activity, next_module, first_of_all, first_ready}
 use Rattle.priority_schedule.specs.Priority.{Seen, after_line, seen, seen_released, is_in, is_release, priority_seen, HoldsRightly, KeepsTick, KeepsPriority}
-use Rattle.priority_schedule.specs.Limits.{threads_limit}
-use Rattle.priority_schedule.specs.Release.{Ticking, Due, nearest, come, after_one, released, drained, drains}
+use Rattle.rt_constants.specs.declared.limits.TheConstants.{THREADS_LIMIT}
+use Rattle.rt_timeline.specs.declared.timeline.ThreadDue.{ThreadDue}
+use Rattle.rt_timeline.specs.Dues.{come}
+use Rattle.priority_schedule.specs.Release.{Ticking, nearest, after_one, released, drained, drains}
 use Rattle.priority_schedule.specs.Run.{real_after, real_lines, real_end, real_time}
-use Rattle.priority_schedule.specs.State.{RealTime, RealTimeStart, Module, is_ready, priority_of, priority_in, first_state}
+use Rattle.rt_ready.specs.Order.{is_ready}
+use Rattle.rt_threads.specs.Threads.{priority_of, priority_in}
+use Rattle.priority_schedule.specs.State.{RealTime, RealTimeStart, Module, first_state}
 use Rattle.priority_schedule.specs.Tick.{begun, devices, same_who, is_on, started, turned_to, picked, stays, acted, real_time_tick}
 use Rattle.priority_schedule.specs.Unit.{RealUnit, gate_answer, gate_line, printed_lines, call_unit, unit_of}
-use Rattle.priority_schedule.specs.Due.{Thread}
-use Rattle.run_lines.specs.Calls.{Call, PutCall, GetCall, call_at}
+use Rattle.rt_threads.specs.declared.threads.Thread.{Thread}
+use Rattle.line_kinds.specs.Calls.{Call, PutCall, GetCall}
+use Rattle.run_lines.specs.Calls.{call_at}
 use Rattle.run_lines.specs.Says.{held_by, holder}
 use Rattle.run_lines.specs.Ticks.{at_tick}
 use Rattle.line_kinds.specs.declared.kinds.RLine.{RLine}
@@ -27,7 +34,7 @@ use Rattle.line_kinds.specs.declared.kinds.RLine.TheVariants.{On, End, Memory}
 use Rattle.line_kinds.specs.declared.kinds.Who.{Who}
 use Rattle.line_kinds.specs.declared.kinds.Who.TheVariants.{Guest, Thread as ThreadOn, Init, Irq, Fifo as FifoOn}
 use Rattle.schedule_laws.proofs.PickFirst.{found_first, none_first}
-use Rattle.schedule_laws.proofs.Reading.{Reads, ids, priority_in_slot, ready-ids, reads_same}
+use Rattle.schedule_laws.proofs.Reading.{ReadsState, ids, priority_in_slot, ready-ids}
 use Rattle.run_lines.proofs.Seen.{IsAt, holder-next, fold-if}
 use Rattle.run_lines.proofs.AtTick.{run-at}
 use Rattle.schedule_laws.proofs.TickReads.{who_lines, Releases, devices_read, drained_reads, unit_reads, UnitReads}
@@ -116,7 +123,7 @@ next_is : (d : Bool) (m : RealTime) → PickIs m (next_activity d m)
 next_is d m =
     skip m _ _ (module_starts m.modules) (
     skip m _ _ (irq_starts d (next_of m.irqs)) (
-    skip m _ _ (fifo_starts d (position is_marked m.fifos)) (thread_last m)))
+    skip m _ _ (fifo_starts d (next_marked m.fifos)) (thread_last m)))
 
 pub pick_after_is : (d : Bool) (m : RealTime) (o : Option Who) → PickIs m (pick_after d m o)
 pick_after_is d m None = next_is d m
@@ -132,11 +139,11 @@ priority_slot (None ∷ ts) zero = refl
 priority_slot (Some th ∷ ts) zero = refl
 priority_slot (x ∷ ts) (suc i) = priority_slot ts i
 
-priority_read : (m : RealTime) (z : Seen) (i : ℕ) → Reads m z → priority_seen z i ≡ priority_of m.threads i
+priority_read : (m : RealTime) (z : Seen) (i : ℕ) → ReadsState m z → priority_seen z i ≡ priority_of m.threads i
 priority_read m z i r = ap (λ xs. unwrap_or (get_or xs i None) 0) r.priorities_are ∙ priority_slot m.threads i
 
 -- so the law holds of the picked one
-pick_holds : (m : RealTime) (z : Seen) (who : Who) → Reads m z → PickIs m who → HoldsRightly (Some who) z
+pick_holds : (m : RealTime) (z : Seen) (who : Who) → ReadsState m z → PickIs m who → HoldsRightly (Some who) z
 pick_holds m z (ThreadOn i) r p =
     let a = p.0 in
     let f = found_first m.version (priority_of m.threads) m.ready a p.1.0 in
@@ -154,16 +161,16 @@ pick_holds m z (FifoOn i) r p = tt
 
 -- the on step
 
-started_reads : (who : Who) (m : RealTime) (z : Seen) → Reads m z → Reads (record (started who m) { on = Some who }) z
-started_reads Guest m z r = reads_same m _ z refl refl r
-started_reads (ThreadOn i) m z r = reads_same m _ z refl refl r
-started_reads (Init i) m z r = reads_same m _ z refl refl r
-started_reads (Irq i) m z r = reads_same m _ z refl refl r
-started_reads (FifoOn i) m z r = reads_same m _ z refl refl r
+started_reads : (who : Who) (m : RealTime) (z : Seen) → ReadsState m z → ReadsState (started who m) z
+started_reads Guest m z r = r
+started_reads (ThreadOn i) m z r = r
+started_reads (Init i) m z r = r
+started_reads (Irq i) m z r = r
+started_reads (FifoOn i) m z r = r
 
 -- z is what the lines said before the tick, s the releases, p the tick after its pick
 pub record Turned (z : Seen) (s p : Ticking) (who : Who) : Type 0 where
-  pub reads : Reads p.real (fold after_line z p.lines)
+  pub reads : ReadsState p.real (fold after_line z p.lines)
   pub only : filter is_release p.lines ≡ filter is_release s.lines
   pub holds : fold held_by z.who p.lines ≡ Some who
   pub on_is : p.real.on ≡ Some who
@@ -180,7 +187,7 @@ turned_reads z s who on_is h =
       }
       | false ↦ λ e. record {
         reads = let r = started_reads who s.real (fold after_line z s.lines) h.reads in
-            subst (λ (x : Seen). Reads next x) (sym (fold-append after_line z s.lines (On who ∷ []))) (record { priorities_are = r.priorities_are; ready_are = r.ready_are; live = r.live });
+            subst (λ (x : Seen). ReadsState next x) (sym (fold-append after_line z s.lines (On who ∷ []))) r;
         only = filter-append is_release s.lines (On who ∷ []) ∙ append-nil (filter is_release s.lines);
         holds = fold-append held_by z.who s.lines (On who ∷ []);
         on_is = refl;
@@ -189,7 +196,7 @@ turned_reads z s who on_is h =
 
 -- what is on stays until the pick
 
-one_on : (o : Option Due) (s : Ticking) → (after_one o s).real.on ≡ s.real.on
+one_on : (o : Option ThreadDue) (s : Ticking) → (after_one o s).real.on ≡ s.real.on
 one_on None s = refl
 one_on (Some d) s = refl
 
@@ -199,7 +206,7 @@ released_on zero t s = refl
 released_on (suc k) t s = released_on k t (after_one (come t (nearest s.real.threads)) s) ∙ one_on (come t (nearest s.real.threads)) s
 
 drained_on : (draining : Bool) (t : ℕ) (s : Ticking) → (drained draining t s).real.on ≡ s.real.on
-drained_on draining t s = elim draining as (λ b. (if b then released threads_limit t s else s).real.on ≡ s.real.on) [ true ↦ released_on threads_limit t s | false ↦ refl ]
+drained_on draining t s = elim draining as (λ b. (if b then released THREADS_LIMIT t s else s).real.on ≡ s.real.on) [ true ↦ released_on THREADS_LIMIT t s | false ↦ refl ]
 
 devices_on : (events : List Event) (m : RealTime) → (devices events (begun m)).real.on ≡ m.on
 unfolding devices
@@ -236,7 +243,7 @@ no_release t call m (Some (FifoOn i)) = every_kind t (FifoOn i) m NoRelease (no_
 
 -- the state is what the lines so far say
 pub record IsRead (m : RealTime) (z : Seen) : Type 0 where
-  pub reads : Reads m z
+  pub reads : ReadsState m z
   pub on_is : (w : Who) → m.on ≡ Some w → z.who ≡ Some w
 
 -- after a tick it is again, and the tick kept the law
@@ -251,13 +258,13 @@ acted_keeps z t call s p who r h pick_ =
     let lines = p.lines ++ u.lines in
     let who_now : z'.who ≡ Some who = who_lines z p.lines ∙ h.holds in
     let ur : UnitReads z' u = subst (λ o. UnitReads z' (unit_of t call p.real o)) (sym h.on_is) (unit_reads t call p.real z' who who_now h.reads) in
-    let after : Reads u.after (fold after_line z lines) = subst (λ (x : Seen). Reads u.after x) (sym (fold-append after_line z p.lines u.lines)) ur in
+    let after : ReadsState u.after (fold after_line z lines) = subst (λ (x : Seen). ReadsState u.after x) (sym (fold-append after_line z p.lines u.lines)) ur in
     let holds : fold held_by z.who lines ≡ Some who = fold-append held_by z.who p.lines u.lines ∙ quiet_unit (fold held_by z.who p.lines) t call p.real p.real.on ∙ h.holds in
     let only : filter is_release lines ≡ filter is_release s.lines = filter-append is_release p.lines u.lines ∙ ap (λ xs. filter is_release p.lines ++ xs) (no_release t call p.real p.real.on) ∙ append-nil (filter is_release p.lines) ∙ h.only in
     let law_z : fold after_line z (filter is_release lines) ≡ fold after_line z s.lines = ap (fold after_line z) only ∙ r.only in
     record {
       is_read = record {
-        reads = record { priorities_are = after.priorities_are; ready_are = after.ready_are; live = after.live };
+        reads = after;
         on_is = λ w. elim (stays u p.real.on) as (λ b. (if b then p.real.on else None) ≡ Some w → (fold after_line z lines).who ≡ Some w) [
           | true ↦ λ e. who_lines z lines ∙ holds ∙ sym h.on_is ∙ e
           | false ↦ λ e. absurd cc

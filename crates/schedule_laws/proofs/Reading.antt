@@ -3,9 +3,12 @@ use Rattle.std.proofs.Common.{◌≡◌, ◌≢◌, ℕ, zero, suc, Bool, true, 
 use Rattle.std.proofs.lemmas.Bool.Decides.{nat_tests, eqb_tells}
 use Rattle.std.proofs.lemmas.List.{map-set, map-append, get_or-set_other}
 use Rattle.priority_schedule.specs.Priority.{Seen, after_result, after_gate, caller_waits, thread_ends, is_in, leaves, joins, ends, has_priority, priority_at, ReadyLive}
-use Rattle.priority_schedule.specs.State.{RealTime, Arrival, thread_at, with_thread, without, joined, is_ready, is_live}
-use Rattle.priority_schedule.specs.Due.{Thread}
-use Rattle.run_lines.specs.Gates.{GateName, PthreadCreate, PthreadDelete, PthreadSuspend, PthreadWakeup, PthreadMakePeriodic, PthreadWait, PthreadSetprio, Nanosleep}
+use Rattle.rt_ready.specs.Order.{Arrival, without, joined, is_ready}
+use Rattle.rt_threads.specs.Threads.{thread_at, with_thread, is_live}
+use Rattle.priority_schedule.specs.State.{RealTime}
+use Rattle.rt_threads.specs.declared.threads.Thread.{Thread}
+use Rattle.module_gates.specs.declared.names.GateName.{GateName}
+use Rattle.module_gates.specs.declared.names.GateName.TheVariants.{PthreadCreate, PthreadDelete, PthreadSuspend, PthreadWakeup, PthreadMakePeriodic, PthreadWait, PthreadSetprio, Nanosleep}
 use Rattle.line_kinds.specs.declared.kinds.Who.{Who}
 use Rattle.line_kinds.specs.declared.kinds.Who.TheVariants.{Guest, Thread as ThreadOn, Init, Irq, Fifo}
 
@@ -19,10 +22,13 @@ abbrev pub priorities : List (Option Thread) → List (Option ℕ)
 priorities threads = map priority_in_slot threads
 
 -- the lines say of the threads and of the ready list what the state has, and each ready thread is live
-pub record Reads (m : RealTime) (s : Seen) : Type 0 where
-  pub priorities_are : s.priorities ≡ priorities m.threads
-  pub ready_are : s.ready ≡ ids m.ready
+pub record Reads (threads : List (Option Thread)) (ready : List Arrival) (s : Seen) : Type 0 where
+  pub priorities_are : s.priorities ≡ priorities threads
+  pub ready_are : s.ready ≡ ids ready
   pub live : ReadyLive s
+
+abbrev pub ReadsState : RealTime → Seen → Type 0
+ReadsState m s = Reads m.threads m.ready s
 
 -- lists
 
@@ -130,33 +136,30 @@ live_slot (Some th ∷ ts) zero = refl
 live_slot (x ∷ ts) (suc i) = live_slot ts i
 
 -- a live thread has a priority by the lines
-pub live_read : (m : RealTime) (s : Seen) (i : ℕ) → s.priorities ≡ priorities m.threads → is_live m.threads i ≡ true → is_some (priority_at s i) ≡ true
-live_read m s i e l = ap (λ xs. is_some (get_or xs i None)) e ∙ live_slot m.threads i ∙ l
+pub live_read : (threads : List (Option Thread)) (s : Seen) (i : ℕ) → s.priorities ≡ priorities threads → is_live threads i ≡ true → is_some (priority_at s i) ≡ true
+live_read threads s i e l = ap (λ xs. is_some (get_or xs i None)) e ∙ live_slot threads i ∙ l
 
--- a change of other parts
-pub reads_same : (m m' : RealTime) (s : Seen) → m.threads ≡ m'.threads → m.ready ≡ m'.ready → Reads m s → Reads m' s
-reads_same m m' s t r h = record { priorities_are = h.priorities_are ∙ ap priorities t; ready_are = h.ready_are ∙ ap ids r; live = h.live }
-
--- a thread leaves the ready list, and perhaps changes in other parts
-pub reads_left : (m m' : RealTime) (s : Seen) (i : ℕ) → priorities m'.threads ≡ priorities m.threads → m'.ready ≡ without i m.ready → Reads m s → Reads m' (leaves i s)
-reads_left m m' s i t r h = record {
+-- a thread leaves the ready list, and perhaps changes in other parts than its priority
+pub reads_left : (threads threads' : List (Option Thread)) (ready : List Arrival) (s : Seen) (i : ℕ) → priorities threads' ≡ priorities threads → Reads threads ready s → Reads threads' (without i ready) (leaves i s)
+reads_left threads threads' ready s i t h = record {
   priorities_are = h.priorities_are ∙ sym t;
-  ready_are = ap (filter (λ j. not (j == i))) h.ready_are ∙ sym (ids-without i m.ready) ∙ sym (ap ids r);
+  ready_are = ap (filter (λ j. not (j == i))) h.ready_are ∙ sym (ids-without i ready);
   live = leaves_live i s h.live;
 }
 
 -- a live thread joins it
-pub reads_joined : (m m' : RealTime) (s : Seen) (i since : ℕ) → is_live m.threads i ≡ true → priorities m'.threads ≡ priorities m.threads → m'.ready ≡ joined i since m.ready → Reads m s → Reads m' (joins i s)
-reads_joined m m' s i since l t r h = record {
+pub reads_joined : (threads threads' : List (Option Thread)) (ready : List Arrival) (s : Seen) (i since : ℕ) → is_live threads i ≡ true → priorities threads' ≡ priorities threads → Reads threads ready s
+    → Reads threads' (joined i since ready) (joins i s)
+reads_joined threads threads' ready s i since l t h = record {
   priorities_are = h.priorities_are ∙ sym t;
-  ready_are = ap (λ xs. xs ++ i ∷ []) h.ready_are ∙ sym (ids-joined i since m.ready) ∙ sym (ap ids r);
-  live = joins_live i s (live_read m s i h.priorities_are l) h.live;
+  ready_are = ap (λ xs. xs ++ i ∷ []) h.ready_are ∙ sym (ids-joined i since ready);
+  live = joins_live i s (live_read threads s i h.priorities_are l) h.live;
 }
 
-pub reads_ended : (m m' : RealTime) (s : Seen) (i : ℕ) → m'.threads ≡ set m.threads i None → m'.ready ≡ without i m.ready → Reads m s → Reads m' (ends i s)
-reads_ended m m' s i t r h = record {
-  priorities_are = ap (λ xs. set xs i None) h.priorities_are ∙ sym (priorities-set i None m.threads) ∙ sym (ap priorities t);
-  ready_are = ap (filter (λ j. not (j == i))) h.ready_are ∙ sym (ids-without i m.ready) ∙ sym (ap ids r);
+pub reads_ended : (threads : List (Option Thread)) (ready : List Arrival) (s : Seen) (i : ℕ) → Reads threads ready s → Reads (set threads i None) (without i ready) (ends i s)
+reads_ended threads ready s i h = record {
+  priorities_are = ap (λ xs. set xs i None) h.priorities_are ∙ sym (priorities-set i None threads);
+  ready_are = ap (filter (λ j. not (j == i))) h.ready_are ∙ sym (ids-without i ready);
   live = ends_live i s h.live;
 }
 

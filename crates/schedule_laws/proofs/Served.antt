@@ -4,7 +4,8 @@ use Rattle.std.specs.List.{list_all}
 use Rattle.std.proofs.lemmas.Bool.Decides.{nat_tests, eqb_tells}
 use Rattle.bare_machine.specs.State.{GuestStart, first_state as first_bare}
 use Rattle.bare_machine.specs.Run.{bare_after}
-use Rattle.hardware_lines.specs.Hardware.{Hardware, Marking, Machines, latched, with_edges, with_if, ports_rose, earlier_due, guest_due, time_of, nearest_due, ticks_until, with_set, rises_at, device_edges, device_step, drain_step, changes_owner, taken, unit_step, same_due, timer_step, machines_after, devices_of, chosen_of, marking, hardware_after, rising_order}
+use Rattle.rt_timeline.specs.Dues.{earlier_due, time_of, ticks_until, come}
+use Rattle.hardware_lines.specs.Hardware.{Hardware, Marking, Machines, latched, with_edges, with_if, ports_rose, guest_due, nearest_due, with_set, rises_at, device_edges, device_step, drain_step, changes_owner, taken, unit_step, same_due, timer_step, machines_after, devices_of, chosen_of, marking, hardware_after, rising_order}
 use Rattle.line_sets.proofs.LineSetLemmas.{has-with_same, has-with_other, has-without_other}
 use Rattle.line_sets.specs.LineSet.{has, with_line, without_line}
 use Rattle.device_script.specs.declared.event.Event.{Event}
@@ -12,12 +13,13 @@ use Rattle.priority_schedule.specs.Pick.{pick}
 use Rattle.pic_8259.specs.Boot.{acknowledge_order}
 use Rattle.rt_irqs.specs.Irqs.{handler_order}
 use Rattle.hardware_lines.specs.Timely.{Ahead, Timely, IsTimely}
-use Rattle.priority_schedule.specs.Limits.{threads_limit}
-use Rattle.priority_schedule.specs.Release.{Ticking, Due, nearest, come, after_one, released, drained, drains}
+use Rattle.rt_constants.specs.declared.limits.TheConstants.{THREADS_LIMIT}
+use Rattle.rt_timeline.specs.declared.timeline.ThreadDue.{ThreadDue}
+use Rattle.priority_schedule.specs.Release.{Ticking, nearest, after_one, released, drained, drains}
 use Rattle.priority_schedule.specs.State.{RealTime, RealTimeStart, first_state as first_real}
 use Rattle.priority_schedule.specs.Run.{real_after}
 use Rattle.priority_schedule.specs.Tick.{begun, devices, is_on, started, turned_to, picked, opened}
-use Rattle.run_lines.specs.Calls.{Call}
+use Rattle.line_kinds.specs.Calls.{Call}
 use Rattle.priority_schedule.proofs.Dues.{all_above}
 use Rattle.schedule_laws.specs.Laws.{stepped_from, stepped_after, IsCalm, NothingDue, StepTimely}
 use Rattle.run_lines.specs.Ticks.{at_tick}
@@ -108,10 +110,10 @@ none_released zero t s h = refl
 none_released (suc k) t s h = ap (λ o. released k t (after_one o s)) h ∙ none_released k t s h
 
 pub none_drained : (draining : Bool) (t : ℕ) (s : Ticking) → come t (nearest s.real.threads) ≡ None → drained draining t s ≡ s
-none_drained draining t s h = elim draining as (λ b. (if b then released threads_limit t s else s) ≡ s) [ true ↦ none_released threads_limit t s h | false ↦ refl ]
+none_drained draining t s h = elim draining as (λ b. (if b then released THREADS_LIMIT t s else s) ≡ s) [ true ↦ none_released THREADS_LIMIT t s h | false ↦ refl ]
 
 -- a thread's due is no nearer than the nearest
-not_come : (t : ℕ) (rise : Option ℕ) (o : Option Due) (guest : Option ℕ) → Ahead t rise → Timely false rise t (earlier_due (time_of o) guest) → come t o ≡ None
+not_come : (t : ℕ) (rise : Option ℕ) (o : Option ThreadDue) (guest : Option ℕ) → Ahead t rise → Timely false rise t (earlier_due (time_of o) guest) → come t o ≡ None
 not_come t rise None guest a h = refl
 not_come t None (Some d) None a h = absurd h
 not_come t None (Some d) (Some g) a h = absurd h

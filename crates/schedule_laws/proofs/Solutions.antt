@@ -6,13 +6,14 @@ use Rattle.bare_machine.specs.State.{Bare, GuestStart}
 use Rattle.bare_machine.specs.Tick.{bare_tick, bare_tick_lines, com1_lines, guest_begins}
 use Rattle.bare_machine.specs.Unit.{unit_lines}
 use Rattle.side_digest.specs.Digest.{digest}
-use Rattle.machine_parts.specs.SerialLine.{byte_sent}
+use Rattle.port_map.specs.SerialLine.{byte_sent}
 use Rattle.device_script.specs.declared.event.Event.{Event}
 use Rattle.priority_schedule.specs.Run.{real_time, real_after, real_lines, real_end}
 use Rattle.priority_schedule.specs.State.{RealTime, RealTimeStart}
 use Rattle.priority_schedule.specs.Tick.{opened, real_time_tick}
 use Rattle.priority_schedule.specs.Unit.{unit_of}
-use Rattle.run_lines.specs.Calls.{Call, calls_of, call_at}
+use Rattle.line_kinds.specs.Calls.{Call}
+use Rattle.run_lines.specs.Calls.{calls_of, call_at}
 use Rattle.run_lines.specs.Says.{Sight, is_guest, held_by, holder, held, after_owner, sight, sight_from}
 use Rattle.run_lines.specs.Ticks.{at_tick, stamped, lines_to}
 use Rattle.line_kinds.specs.declared.kinds.GLine.{GLine}

@@ -8,12 +8,12 @@ use Rattle.breach_monitor.specs.declared.real_time.RealTimeUnit.TheVariants.{Nex
 use Rattle.line_kinds.specs.declared.kinds.FaultKind.{FaultKind}
 use Rattle.line_kinds.specs.declared.kinds.Who.{Who}
 use Rattle.line_kinds.specs.declared.kinds.Who.TheVariants.{Guest, Thread, Init, Irq, Fifo}
-use Rattle.machine_parts.specs.Processor.{at_eip}
-use Rattle.run_lines.specs.Calls.{Call, PutCall, GetCall}
-use Rattle.run_lines.specs.Gates.{gate_of}
+use Rattle.cpu_state.specs.Registers.{at_eip}
+use Rattle.line_kinds.specs.Calls.{Call, PutCall, GetCall}
+use Rattle.module_gates.specs.Names.{gate_of}
 use Rattle.run_lines.specs.Says.{held_by}
-use Rattle.priority_schedule.specs.Gates.{Request, Answered, gate}
-use Rattle.priority_schedule.specs.State.{RealTime}
+use Rattle.module_gates.specs.Gates.{Request, Answered, gate}
+use Rattle.priority_schedule.specs.State.{RealTime, parts_of}
 use Rattle.priority_schedule.specs.Unit.{RealUnit, performed_unit, fault_unit, return_unit, gate_answer, registers_of, request_of, came_to, outcome_at, activity_unit, call_unit, unit_of, gate_line, printed_lines}
 
 -- a fact of the four kinds of unit is one of every unit
@@ -21,7 +21,7 @@ pub record Kinds (t : ℕ) (who : Who) (m : RealTime) (P : RealUnit → Type 0) 
   pub performing : (o : Outcome Serial) → P (performed_unit who o m)
   pub faulting : (kind : FaultKind) → P (fault_unit who kind m)
   pub returning : P (return_unit who m)
-  pub gating : (registers : Registers) (q : Request) → P (gate_answer who registers q m (gate t who q m (gate_of q.function)))
+  pub gating : (registers : Registers) (q : Request) → P (gate_answer who registers q m (gate t who q (parts_of m) (gate_of q.function)))
 
 came_kind : (t : ℕ) (who : Who) (m : RealTime) (P : RealUnit → Type 0) → Kinds t who m P → (o : Outcome Serial) (u : RealTimeUnit) → P (came_to t who o m u)
 came_kind t who m P k o Next = k.performing o

@@ -4,8 +4,9 @@ use Rattle.device_script.specs.declared.event.Event.{Event}
 use Rattle.line_kinds.specs.declared.kinds.GLine.{GLine}
 use Rattle.line_kinds.specs.declared.kinds.RLine.{RLine}
 use Rattle.line_kinds.specs.declared.kinds.Who.{Who}
-use Rattle.machine_parts.specs.SerialLine.{byte_sent}
-use Rattle.run_lines.specs.Calls.{Call, call_in, first_of}
+use Rattle.port_map.specs.SerialLine.{byte_sent}
+use Rattle.line_kinds.specs.Calls.{Call, call_in}
+use Rattle.run_lines.specs.Calls.{first_of}
 use Rattle.run_lines.specs.Says.{Sight, is_guest, held_by, after_owner, sight_from}
 use Rattle.run_lines.specs.Ticks.{at_tick, stamped, lines_to}
 use Rattle.bare_machine.specs.State.{Bare, GuestStart, UnitOutcome, first_state as first_bare}

@@ -7,15 +7,18 @@ use Rattle.line_kinds.specs.declared.kinds.GLine.{GLine}
 use Rattle.line_kinds.specs.declared.kinds.RLine.{RLine}
 use Rattle.line_kinds.specs.declared.kinds.Who.{Who}
 use Rattle.line_kinds.specs.declared.kinds.Who.TheVariants.{Guest, Thread}
-use Rattle.run_lines.specs.Calls.{Call, calls_of}
+use Rattle.line_kinds.specs.Calls.{Call}
+use Rattle.run_lines.specs.Calls.{calls_of}
 use Rattle.run_lines.specs.Says.{holder, held, pended, reply_in}
 use Rattle.run_lines.specs.Ticks.{at_tick, IsPrefixOf}
 use Rattle.bare_machine.specs.Run.{bare, bare_run}
 use Rattle.bare_machine.specs.State.{GuestStart}
 use Rattle.priority_schedule.specs.Priority.{KeepsPriority}
-use Rattle.priority_schedule.specs.Release.{drained, drains, due_at}
+use Rattle.rt_threads.specs.Threads.{due_at}
+use Rattle.priority_schedule.specs.Release.{drained, drains}
 use Rattle.priority_schedule.specs.Run.{real_time, real_run, real_after}
-use Rattle.priority_schedule.specs.State.{RealTime, RealTimeStart, is_ready}
+use Rattle.rt_ready.specs.Order.{is_ready}
+use Rattle.priority_schedule.specs.State.{RealTime, RealTimeStart}
 use Rattle.priority_schedule.specs.Tick.{begun, devices, opened, real_time_tick}
 use Rattle.priority_schedule.specs.Unit.{unit_of}
 use Rattle.hardware_lines.specs.Hardware.{Hardware, Machines, devices_of, device_step, guest_due, hardware, hardware_after, machines_after, marking}

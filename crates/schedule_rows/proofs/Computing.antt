@@ -33,18 +33,19 @@ use Rattle.soft_entry.specs.Entry.{entering}
 use Rattle.soft_gates.specs.Gate.{service, gated}
 use Rattle.line_sets.specs.LineSet.{union, common, minus, with_line, without_line, first_in}
 use Rattle.rt_irqs.specs.Irqs.{next_of, free_soft_line}
-use Rattle.run_lines.specs.Gates.{gate_of}
+use Rattle.module_gates.specs.Names.{gate_of}
 use Rattle.run_lines.specs.Says.{holder, held}
 use Rattle.run_lines.specs.Ticks.{lines_to}
-use Rattle.machine_parts.specs.Processor.{unit_at, starting}
-use Rattle.machine_parts.specs.Ranges.{first_outside}
-use Rattle.machine_parts.specs.SerialLine.{new_serial, ticked, byte_sent, received, sampled}
+use Rattle.breach_monitor.specs.SerialUnit.{unit_at}
+use Rattle.cpu_state.specs.Registers.{starting}
+use Rattle.memory_model.specs.Side.{first_outside}
+use Rattle.port_map.specs.SerialLine.{new_serial, ticked, byte_sent, received, sampled}
 use Rattle.bare_machine.specs.Run.{bare_after, bare_lines}
 use Rattle.bare_machine.specs.State.{first_state}
 use Rattle.bare_machine.specs.Tick.{prepared, guest_begins}
 use Rattle.bare_machine.specs.Unit.{guest_unit}
-use Rattle.priority_schedule.specs.Fifos.{put_reply, get_reply, with_mark, without_mark, without_handler}
-use Rattle.priority_schedule.specs.Pick.{first_place}
+use Rattle.rt_fifos.specs.Fifos.{put_reply, get_reply, with_mark, without_mark, without_handler}
+use Rattle.rt_ready.specs.Order.{first_place}
 use Rattle.priority_schedule.specs.Priority.{seen}
 use Rattle.priority_schedule.specs.Release.{nearest, released}
 use Rattle.priority_schedule.specs.Run.{real_after, real_lines}

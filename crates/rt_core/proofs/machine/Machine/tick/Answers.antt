@@ -1,8 +1,8 @@
 use Rattle.std.proofs.Common.{◌≡◌, ◌+◌, ◌∙◌, sym, ap, arith, drop, take}
 use Rattle.run_lines.specs.Says.{sight_from}
 use Rattle.run_lines.specs.Ticks.{at_tick}
-use Rattle.machine_parts.specs.SerialLine.{sampled, all_received, ticked}
-use Rattle.machine_parts.specs.Script.{com1_bytes}
+use Rattle.port_map.specs.SerialLine.{sampled, all_received, ticked}
+use Rattle.device_script.specs.Events.{com1_bytes}
 use Rattle.bare_machine.specs.State.{UnitOutcome}
 use Rattle.bare_machine.specs.Unit.{guest_unit}
 use Rattle.rt_core.specs.Machine.{bare_with, com1_of, after_unit, board_after, unit_lines}

@@ -1,4 +1,0 @@
-pub mod Processor
-pub mod SerialLine
-pub mod Ranges
-pub mod Script

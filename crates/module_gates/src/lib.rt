@@ -1,0 +1,20 @@
+//! The gates of real-time activities, INT F8h: their names by number, and what each comes to over the threads, the ready list, the
+//! interrupt lines, the FIFOs and the side.
+#![tactic(auto)]
+
+mod names;
+
+pub use names::{gate_name, GateName};
+
+ghost use Rattle.module_gates.specs.Worked.{Exhausted, Faults, FifoGates, GateRows, LineGates, Refused, ThreadGates};
+
+/// What the table of gates gives on small states: results, and the state after each gate and after faults.
+pub fn worked()
+    ensures results { GateRows }
+    ensures exhausted { Exhausted }
+    ensures threads { ThreadGates }
+    ensures fifos { FifoGates }
+    ensures lines { LineGates }
+    ensures refused { Refused }
+    ensures faults { Faults }
+{}

@@ -1,0 +1,8 @@
+//! What both sides and both machines name alike: error numbers, the assignment of interrupt lines, and limits.
+#![tactic(auto)]
+
+mod errors;
+pub mod limits;
+pub mod lines;
+
+pub use errors::{failed, EAGAIN, EBUSY, EINVAL, ENODEV, ENOSPC};

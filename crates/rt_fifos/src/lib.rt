@@ -1,0 +1,2 @@
+//! FIFOs between the guest and the real-time side.
+#![tactic(auto)]

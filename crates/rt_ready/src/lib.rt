@@ -1,0 +1,13 @@
+//! The ready threads, and which of them goes first.
+#![tactic(auto)]
+
+mod ready;
+
+pub use ready::{Place, Ready};
+
+ghost use Rattle.rt_ready.specs.Worked.{Picks};
+
+/// Which of small lists of threads goes first, in both versions of the rule.
+pub fn worked()
+    ensures { Picks }
+{}
