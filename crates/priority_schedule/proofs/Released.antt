@@ -1,5 +1,5 @@
 -- So many releases as there are threads leave none whose due has come.
-use Rattle.std.proofs.Common.{◌≡◌, ℕ, zero, suc, ◌+◌, ◌<◌, ◌≤◌, Bool, true, false, cond, nat_le, refl, ap, ◌∙◌, arith, List, length, Option, Some, None, option_map, subst, IfSome, count_by}
+use Rattle.std.proofs.Common.{◌≡◌, ℕ, zero, suc, ◌+◌, ◌<◌, ◌≤◌, Bool, true, false, cond, nat_le, refl, sym, ap, ◌∙◌, arith, List, length, Option, Some, None, option_map, subst, IfSome, count_by}
 use Rattle.std.proofs.lemmas.Bool.Decides.{nat_tests}
 use Rattle.std.proofs.lemmas.List.Sums.{sum_by-set, count_by-le-length}
 use Rattle.rt_threads.specs.declared.threads.Thread.{Thread}
@@ -69,3 +69,33 @@ pub all_released : (t : ℕ) (s : Ticking) → length s.real.threads ≤ THREADS
 all_released t s h i =
     let few = count_by-le-length (slot_comes t) s.real.threads in
     all_above t (released THREADS_LIMIT t s).real.threads (none_left THREADS_LIMIT t s (omega (arith, few, h))) i
+
+-- a round more than there are threads to release changes nothing
+released_more : (k t : ℕ) (s : Ticking) → coming t s.real.threads ≤ k → released (suc k) t s ≡ released k t s
+unfolding released
+released_more zero t s h =
+    elim (come t (nearest s.real.threads)) as (λ o. come t (nearest s.real.threads) ≡ o → after_one o s ≡ s) [
+      | None ↦ λ e. refl
+      | Some d ↦ λ e. let f = one_fewer t s.real.threads d e in absurd (omega (arith, f, h))
+    ] refl
+released_more (suc k) t s h =
+    elim (come t (nearest s.real.threads)) as (λ o. come t (nearest s.real.threads) ≡ o → released (suc k) t (after_one o s) ≡ released k t (after_one o s)) [
+      | None ↦ λ e. no_release (suc k) t s e ∙ sym (no_release k t s e)
+      | Some d ↦ λ e. let f = one_fewer t s.real.threads d e in released_more k t (with_released d s) (omega (arith, f, h))
+    ] refl
+
+-- so a loop may release one, and what is still to come is the same
+pub released_stays : (t : ℕ) (s : Ticking) → length s.real.threads ≤ THREADS_LIMIT → released THREADS_LIMIT t (after_one (come t (nearest s.real.threads)) s) ≡ released THREADS_LIMIT t s
+unfolding released
+released_stays t s h =
+    elim (come t (nearest s.real.threads)) as (λ o. come t (nearest s.real.threads) ≡ o → released THREADS_LIMIT t (after_one o s) ≡ released 63 t (after_one o s)) [
+      | None ↦ λ e. no_release THREADS_LIMIT t s e ∙ sym (no_release 63 t s e)
+      | Some d ↦ λ e.
+          let f = one_fewer t s.real.threads d e in
+          let few = count_by-le-length (slot_comes t) s.real.threads in
+          released_more 63 t (with_released d s) (omega (arith, f, few, h))
+    ] refl
+
+-- and where none has come, the loop is done
+pub released_done : (t : ℕ) (s : Ticking) → come t (nearest s.real.threads) ≡ None → released THREADS_LIMIT t s ≡ s
+released_done t s e = no_release THREADS_LIMIT t s e

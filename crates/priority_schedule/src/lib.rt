@@ -6,7 +6,7 @@
 //! theirs it says so.
 #![tactic(auto)]
 
-ghost use Rattle.priority_schedule.specs.Laws.{AllReleased};
+ghost use Rattle.priority_schedule.specs.Laws.{AllReleased, ReleasesOneByOne};
 ghost use Rattle.priority_schedule.specs.Worked.{Handlers, Order, Releases};
 
 /// What the definitions give on small states: releases, what is on next, and handlers that start.
@@ -19,4 +19,9 @@ pub fn worked()
 /// A tick that drains releases every thread whose due has come.
 pub fn all_released()
     ensures { AllReleased }
+{}
+
+/// A loop may release one thread at a time.
+pub fn releases_one_by_one()
+    ensures { ReleasesOneByOne }
 {}

@@ -1,6 +1,6 @@
 -- The ready threads in order of arrival, and which of them goes first. Threads of greater priority go first (POSIX, SCHED_FIFO); the
 -- order among equal ones is this project's own.
-use Rattle.std.specs.Prelude.{ℕ, ◌==◌, nat_lt, Bool, not, ◌&&◌, ◌||◌, List, [], ◌∷◌, ◌++◌, find, filter, map, if◌then◌else◌, Option}
+use Rattle.std.specs.Prelude.{ℕ, ◌==◌, nat_lt, Bool, true, not, ◌&&◌, ◌||◌, List, [], ◌∷◌, ◌++◌, find, filter, map, if◌then◌else◌, Option}
 use Rattle.std.specs.List.{list_any}
 use Rattle.rt_ready.specs.declared.ready.Place.{Place}
 
@@ -19,6 +19,11 @@ without i ready = filter (λ (a : Arrival). not (a.id == i)) ready
 -- a thread comes last
 abbrev pub joined : ℕ → ℕ → List Arrival → List Arrival
 joined i since ready = ready ++ record { id = i; since = since } ∷ []
+
+-- does each stand in it once?
+abbrev pub each_once : List Arrival → Bool
+each_once [] = true
+each_once (a ∷ as_) = not (is_ready a.id as_) && each_once as_
 
 -- Places: arrivals with their threads' priorities
 

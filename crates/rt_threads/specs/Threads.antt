@@ -1,6 +1,6 @@
 -- The live threads (RTLinux 3, pthread_create, pthread_make_periodic_np, pthread_wait_np and their kin; times are ticks, which is this
 -- project's own). Thread n is at place n of 64.
-use Rattle.std.specs.Prelude.{◌≡◌, ℕ, ◌+◌, ◌<◌, nat_le, Bool, false, not, ◌&&◌, ◌==◌, List, slice_index_or, slice_set, position, map, if◌then◌else◌, Option, Some, None, is_some, is_none, option_map, ℤ, pos}
+use Rattle.std.specs.Prelude.{◌≡◌, ℕ, ◌+◌, ◌<◌, nat_le, Bool, true, false, not, ◌&&◌, ◌==◌, List, slice_index_or, slice_set, position, map, if◌then◌else◌, Option, Some, None, is_some, is_none, option_map, ℤ, pos}
 use Rattle.cpu_state.specs.declared.registers.Registers.{Registers}
 use Rattle.rt_constants.specs.Errors.{failed}
 use Rattle.rt_constants.specs.declared.errors.TheConstants.{EAGAIN, EINVAL}
@@ -24,6 +24,16 @@ priority_of threads i = priority_in (thread_at threads i)
 
 abbrev pub state_of : Option Thread → Option State
 state_of thread = option_map (λ (th : Thread). th.state) thread
+
+-- does a place have a ready thread?
+abbrev pub is_ready_state : State → Bool
+is_ready_state Ready = true
+is_ready_state (Waiting due) = false
+is_ready_state Suspended = false
+
+abbrev pub is_ready_in : Option Thread → Bool
+is_ready_in None = false
+is_ready_in (Some thread) = is_ready_state thread.state
 
 -- until when a thread waits, if it does
 abbrev pub due_of : State → Option ℕ

@@ -1,8 +1,8 @@
 -- The guest's calls, read off its lines.
 use Rattle.std.specs.Prelude.{ℕ, List, [], ◌∷◌, Option, Some, None}
-use Rattle.run_lines.specs.Ticks.{at_tick}
+use Rattle.line_kinds.specs.Calls.{Call, call_in}
 use Rattle.line_kinds.specs.declared.kinds.GLine.{GLine}
-use Rattle.line_kinds.specs.declared.kinds.GLine.TheVariants.{Put, Get}
+use Rattle.run_lines.specs.Ticks.{at_tick}
 
 abbrev pub with_call : ℕ → Option Call → List (ℕ × Call) → List (ℕ × Call)
 with_call t None calls = calls

@@ -10,3 +10,4 @@ mod HeldReads
 mod Calm
 mod Served
 mod Drains
+mod ReadyLists

@@ -1,11 +1,15 @@
 -- Dues are served in time: where line 0 isn't latched, no due has come.
-use Rattle.std.proofs.Common.{◌≡◌, ℕ, zero, suc, ◌+◌, ◌-◌, ◌*◌, ◌/◌, ◌<◌, ◌≢◌, Bool, true, false, ◌&&◌, cond, ◌==◌, eqb, leb, refl, sym, ap, ◌∙◌, arith, List, [], ◌∷◌, ◌++◌, map, if◌then◌else◌, Option, Some, None, filter, subst, ◌⊎◌, ⊎_elim, inl, inr, nat_lt, IfSome}
+use Rattle.std.proofs.Common.{◌≡◌, ℕ, zero, suc, ◌+◌, ◌-◌, ◌*◌, ◌/◌, ◌<◌, ◌≢◌, Bool, true, false, ◌&&◌, cond, ◌==◌, eqb, leb, refl, sym, ap, ◌∙◌, arith, List, [], ◌∷◌, ◌++◌, map, if◌then◌else◌, Option, Some, None, filter, subst, ◌⊎◌, ⊎_elim, inl, inr, nat_lt, IfSome, length, ◌≤◌}
 use Rattle.std.specs.List.{list_all}
 use Rattle.std.proofs.lemmas.Bool.Decides.{nat_tests, eqb_tells}
+use Rattle.std.proofs.lemmas.Bool.{cases_Bool}
+use Rattle.std.proofs.Math.Nat.{div-lt_iff_lt-mul}
+use Rattle.rt_threads.specs.Threads.{due_at}
+use Rattle.priority_schedule.proofs.Released.{all_released}
 use Rattle.bare_machine.specs.State.{GuestStart, first_state as first_bare}
 use Rattle.bare_machine.specs.Run.{bare_after}
 use Rattle.rt_timeline.specs.Dues.{earlier_due, time_of, ticks_until, come}
-use Rattle.hardware_lines.specs.Hardware.{Hardware, Marking, Machines, latched, with_edges, with_if, ports_rose, guest_due, nearest_due, with_set, rises_at, device_edges, device_step, drain_step, changes_owner, taken, unit_step, same_due, timer_step, machines_after, devices_of, chosen_of, marking, hardware_after, rising_order}
+use Rattle.hardware_lines.specs.Hardware.{Hardware, Marking, Machines, latched, with_edges, with_if, both_rose, guest_due, nearest_due, with_set, rises_at, device_edges, device_step, drain_step, changes_owner, taken, unit_step, same_due, timer_step, machines_after, devices_of, chosen_of, marking, hardware_after, rising_order}
 use Rattle.line_sets.proofs.LineSetLemmas.{has-with_same, has-with_other, has-without_other}
 use Rattle.line_sets.specs.LineSet.{has, with_line, without_line}
 use Rattle.device_script.specs.declared.event.Event.{Event}
@@ -21,7 +25,7 @@ use Rattle.priority_schedule.specs.Run.{real_after}
 use Rattle.priority_schedule.specs.Tick.{begun, devices, is_on, started, turned_to, picked, opened}
 use Rattle.line_kinds.specs.Calls.{Call}
 use Rattle.priority_schedule.proofs.Dues.{all_above}
-use Rattle.schedule_laws.specs.Laws.{stepped_from, stepped_after, IsCalm, NothingDue, StepTimely}
+use Rattle.schedule_laws.specs.Laws.{stepped_from, stepped_after, IsCalm, NoneReleased, NothingDue, StepTimely, DrainedCalm}
 use Rattle.run_lines.specs.Ticks.{at_tick}
 use Rattle.line_kinds.specs.declared.kinds.HLine.{HLine}
 use Rattle.line_kinds.specs.declared.kinds.HLine.TheVariants.{Ack}
@@ -272,7 +276,7 @@ taken_rise (line ∷ lines) s =
 
 after_unit_step : (t : ℕ) (chosen after : Machines) (s : Marking) → Drained t s.hardware chosen → Drained t (unit_step chosen after s).hardware chosen
 after_unit_step t chosen after s h =
-    let e = with_edges (ports_rose chosen after 0) s in
+    let e = with_edges (both_rose chosen after 0) s in
     let lines = filter (changes_owner chosen after) handler_order in
     let p = taken_rise lines e in
     let u = unit_step chosen after s in
@@ -282,7 +286,7 @@ after_unit_step t chosen after s h =
           (subst (λ l. Timely (has u.hardware.latch 0) s.hardware.rise (suc t) (nearest_due l chosen)) (sym p.1)
           (timely_more (has s.hardware.latch 0) (has u.hardware.latch 0) s.hardware.rise (suc t) (nearest_due s.hardware.last chosen)
           (λ f. taken_stays lines e (not_first (changes_owner chosen after) handler_order above_all)
-          (stays_latched s.hardware.latch (filter (has (ports_rose chosen after 0)) rising_order) f)) h.timely));
+          (stays_latched s.hardware.latch (filter (has (both_rose chosen after 0)) rising_order) f)) h.timely));
     }
 
 -- the timer
@@ -332,13 +336,60 @@ tick_served k events before after h s =
 calm_at : (t : ℕ) (h : Hardware) (m : Machines) → Stepped t h m → has h.latch 0 ≡ false → IsCalm t h m
 calm_at t h m s e = record { of_threads = λ i. all_above t m.real.threads (none_come t h m s e) i; of_guest = guest_calm t h m s e }
 
+-- so nothing is released
+none_released_at : (t : ℕ) (events : List Event) (h : Hardware) (m : Machines) → Stepped t h m → has h.latch 0 ≡ false → NoneReleased t events m.real
+none_released_at t events h m s e draining =
+    drained_same draining t (devices events (begun m.real)) (inr (ap (λ ts. come t (nearest ts)) (device_threads events m.real) ∙ none_come t h m s e))
+
 pub tick_timely : (k : ℕ) (events : List Event) (before after : Machines) (h : Hardware) → Served k h before → StepTimely k events before after h
 tick_timely k events before after h s =
     let a = after_device k events before (devices_of events before) h [] s in
     record {
       devices = a;
       calm = calm_at (suc k) (stepped_from (suc k) events before h) before a;
+      none_released = none_released_at (suc k) events (stepped_from (suc k) events before h) before a;
       tick = tick_served k events before after h s;
+    }
+
+-- after a drain
+
+-- the guest's next due is above the tick
+guest_after : (t s p : ℕ) → IfSome (if p == 0 then None else Some (s + ((t - s) / p + 1) * p)) (λ due. t < due)
+guest_after t s p = elim (cases_Bool (p == 0)) [
+  | inl off ↦ rw off tt
+  | inr on ↦
+      let some : 0 < p = grind (arith, nat_tests) in
+      let l : t - s < ((t - s) / p + 1) * p = (div-lt_iff_lt-mul {k = p} {x = t - s} {y = (t - s) / p + 1} some).0 (omega arith) in
+      let above : t < s + ((t - s) / p + 1) * p = omega (arith, l) in
+      rw on above
+]
+
+pub drained_calm : DrainedCalm
+drained_calm k events before h s few open_ =
+    let t = suc k in
+    let x = devices events (begun before.real) in
+    let chosen = chosen_of t events before in
+    let d = device_step t events before (devices_of events before) (record { hardware = h; lines = [] }) in
+    let a = after_device k events before (devices_of events before) h [] s in
+    let threads : chosen.real.threads ≡ (drained true t x).real.threads =
+        picked_threads (drains before.real) (drained (drains before.real) t x) ∙ ap (λ b. (drained b t x).real.threads) open_ in
+    let size : length x.real.threads ≤ THREADS_LIMIT = subst (λ ts. length ts ≤ THREADS_LIMIT) (sym (device_threads events before.real)) few in
+    let acks : List HLine = d.lines ++ map Ack (filter (has d.hardware.latch) acknowledge_order) in
+    let noted : Hardware = record d.hardware { latch = 0; last = t } in
+    let cleared : Hardware = record d.hardware { latch = 0 } in
+    let set : Marking = with_set t (nearest_due t chosen) (record { hardware = noted; lines = acks }) in
+    record {
+      emptied = elim (has d.hardware.latch 0) as (λ b. (if b then set else record { hardware = cleared; lines = acks }).hardware.latch ≡ 0) [
+        | true ↦ set_latch t (nearest_due t chosen) (record { hardware = noted; lines = acks })
+        | false ↦ refl
+      ];
+      calm = record {
+        of_threads = λ i. subst (λ ts. IfSome (due_at ts i) (λ due. t < due)) (sym threads) (all_released t x size i);
+        of_guest = elim (has d.hardware.latch 0) as (λ b. has d.hardware.latch 0 ≡ b → IfSome (guest_due (if b then set else record { hardware = cleared; lines = acks }).hardware.last chosen.bare) (λ due. t < due)) [
+          | true ↦ λ e. subst (λ l. IfSome (guest_due l chosen.bare) (λ due. t < due)) (sym (set_last t (nearest_due t chosen) (record { hardware = noted; lines = acks }))) (guest_after t chosen.bare.timer_start chosen.bare.timer_period)
+          | false ↦ λ e. guest_calm t d.hardware before a e
+        ] refl;
+      };
     }
 
 -- a run

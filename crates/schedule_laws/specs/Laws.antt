@@ -1,5 +1,5 @@
 -- Laws of the runs of both machines. A run is of a guest start with its services, a real-time start, a script and so many ticks.
-use Rattle.std.specs.Prelude.{◌≡◌, ℕ, suc, ◌+◌, ◌<◌, ◌≤◌, Bool, true, false, List, [], Option, Some, IfSome}
+use Rattle.std.specs.Prelude.{◌≡◌, ℕ, suc, ◌+◌, ◌<◌, ◌≤◌, Bool, true, false, List, [], length, map, Option, Some, option_map, IfSome}
 use Rattle.line_sets.specs.LineSet.{has}
 use Rattle.rt_irqs.specs.Irqs.{is_held}
 use Rattle.device_script.specs.declared.event.Event.{Event}
@@ -13,15 +13,17 @@ use Rattle.run_lines.specs.Says.{holder, held, pended, reply_in}
 use Rattle.run_lines.specs.Ticks.{at_tick, IsPrefixOf}
 use Rattle.bare_machine.specs.Run.{bare, bare_run}
 use Rattle.bare_machine.specs.State.{GuestStart}
-use Rattle.priority_schedule.specs.Priority.{KeepsPriority}
-use Rattle.rt_threads.specs.Threads.{due_at}
+use Rattle.priority_schedule.specs.Priority.{Seen, seen, KeepsPriority}
+use Rattle.rt_threads.specs.declared.threads.Thread.{Thread}
+use Rattle.rt_threads.specs.Threads.{due_at, thread_at, is_ready_in}
 use Rattle.priority_schedule.specs.Release.{drained, drains}
 use Rattle.priority_schedule.specs.Run.{real_time, real_run, real_after}
-use Rattle.rt_ready.specs.Order.{is_ready}
+use Rattle.rt_ready.specs.Order.{Arrival, is_ready, each_once}
 use Rattle.priority_schedule.specs.State.{RealTime, RealTimeStart}
 use Rattle.priority_schedule.specs.Tick.{begun, devices, opened, real_time_tick}
 use Rattle.priority_schedule.specs.Unit.{unit_of}
-use Rattle.hardware_lines.specs.Hardware.{Hardware, Machines, devices_of, device_step, guest_due, hardware, hardware_after, machines_after, marking}
+use Rattle.rt_constants.specs.declared.limits.TheConstants.{THREADS_LIMIT}
+use Rattle.hardware_lines.specs.Hardware.{Hardware, Machines, devices_of, chosen_of, device_step, drain_step, guest_due, hardware, hardware_after, machines_after, marking}
 use Rattle.hardware_lines.specs.Timely.{IsTimely}
 use Rattle.run_output.specs.Output.{run_lines}
 
@@ -97,12 +99,17 @@ UnitsShow =
     × (reply_in (real_time_tick t events call m).lines ≡ reply_in (unit_of t call (opened t events m).real (opened t events m).real.on).lines)
 
 -- Dues, a tick at a time, from any hardware and machines between ticks k and k + 1. The device step keeps that the one-shot serves the
--- nearest due, by this tick; where line 0 isn't latched then, every due is above it. The whole tick keeps it by the next one
+-- nearest due, by this tick; where line 0 isn't latched then, every due is above it, and nothing is released. The whole tick keeps it by
+-- the next one
 
 -- every due is above a tick
 pub record IsCalm (t : ℕ) (h : Hardware) (m : Machines) : Type 0 where
   pub of_threads : (i : ℕ) → IfSome (due_at m.real.threads i) (λ due. t < due)
   pub of_guest : IfSome (guest_due h.last m.bare) (λ due. t < due)
+
+-- nothing is released in a tick, whether or not it drains
+abbrev pub NoneReleased : ℕ → List Event → RealTime → Type 0
+NoneReleased t events m = (draining : Bool) → let s = devices events (begun m) in drained draining t s ≡ s
 
 -- the hardware after a device step
 abbrev pub stepped_from : ℕ → List Event → Machines → Hardware → Hardware
@@ -111,11 +118,29 @@ stepped_from t events m h = (device_step t events m (devices_of events m) (recor
 pub record StepTimely (k : ℕ) (events : List Event) (before after : Machines) (h : Hardware) : Type 0 where
   pub devices : IsTimely (suc k) (suc k) (stepped_from (suc k) events before h) before
   pub calm : has (stepped_from (suc k) events before h).latch 0 ≡ false → IsCalm (suc k) (stepped_from (suc k) events before h) before
+  pub none_released : has (stepped_from (suc k) events before h).latch 0 ≡ false → NoneReleased (suc k) events before.real
   pub tick : IsTimely (suc k) (suc (suc k)) (marking (suc k) events before after h).hardware after
 
 abbrev pub TickTimely : Type 0
 TickTimely =
     (k : ℕ) (events : List Event) (before after : Machines) (h : Hardware) → IsTimely k (suc k) h before → StepTimely k events before after h
+
+-- In a tick that drains, no line is latched between its drain and its unit, and nothing is due: neither a thread's due nor the guest's is
+-- at most the tick
+
+abbrev pub drained_from : ℕ → List Event → Machines → Hardware → Hardware
+drained_from t events m h =
+    (drain_step t true (chosen_of t events m) (device_step t events m (devices_of events m) (record { hardware = h; lines = [] }))).hardware
+
+pub record IsDrained (t : ℕ) (h : Hardware) (m : Machines) : Type 0 where
+  pub emptied : h.latch ≡ 0
+  pub calm : IsCalm t h m
+
+abbrev pub DrainedCalm : Type 0
+DrainedCalm =
+    (k : ℕ) (events : List Event) (before : Machines) (h : Hardware)
+    → IsTimely k (suc k) h before → length before.real.threads ≤ THREADS_LIMIT → drains before.real ≡ true
+    → IsDrained (suc k) (drained_from (suc k) events before h) (chosen_of (suc k) events before)
 
 -- Dues. After each tick the one-shot rises, if it does, above that tick, and it serves the nearest due, the guest's included: line 0 is
 -- latched, or it rises at most at the greater of the due and the next tick
@@ -134,8 +159,7 @@ stepped_after guest start script r calls k =
 -- not it drains
 pub record NothingDue (guest : GuestStart) (start : RealTimeStart) (script : List (ℕ × Event)) (r : List (ℕ × RLine)) (calls : List (ℕ × Call)) (k : ℕ) : Type 0 where
   pub calm : IsCalm (suc k) (stepped_after guest start script r calls k) (machines_after guest start script r calls k)
-  pub none_released : (draining : Bool) →
-      let s = devices (at_tick (suc k) script) (begun (machines_after guest start script r calls k).real) in drained draining (suc k) s ≡ s
+  pub none_released : NoneReleased (suc k) (at_tick (suc k) script) (machines_after guest start script r calls k).real
 
 abbrev pub CalmUnlatched : Type 0
 CalmUnlatched =
@@ -153,3 +177,32 @@ abbrev pub GuestDrains : Type 0
 GuestDrains =
     (start : RealTimeStart) (script : List (ℕ × Event)) (calls : List (ℕ × Call)) (k : ℕ)
     → (opened (suc k) (at_tick (suc k) script) (real_after start script calls k)).real.on ≡ Some Guest → drains (real_after start script calls k) ≡ true
+
+-- Threads. The ready list is just the threads in state ready, each once, and there are 64 places for threads: a tick keeps that, from any
+-- state, and so it is in every run
+
+pub record IsReadyList (threads : List (Option Thread)) (ready : List Arrival) : Type 0 where
+  pub places : length threads ≡ THREADS_LIMIT
+  pub just_ready : (i : ℕ) → is_ready i ready ≡ is_ready_in (thread_at threads i)
+  pub once : each_once ready ≡ true
+
+abbrev pub TickReady : Type 0
+TickReady =
+    (t : ℕ) (events : List Event) (call : Option Call) (m : RealTime) → IsReadyList m.threads m.ready
+    → let after = (real_time_tick t events call m).real in IsReadyList after.threads after.ready
+
+abbrev pub RunReady : Type 0
+RunReady =
+    (start : RealTimeStart) (script : List (ℕ × Event)) (calls : List (ℕ × Call)) (k : ℕ)
+    → let m = real_after start script calls k in IsReadyList m.threads m.ready
+
+-- And the lines say it: which threads are live with which priorities, and which are ready in which order, as read off the real-time lines
+
+pub record IsSeen (m : RealTime) (s : Seen) : Type 0 where
+  pub priorities : s.priorities ≡ map (option_map (λ (th : Thread). th.priority)) m.threads
+  pub ready : s.ready ≡ map (λ (a : Arrival). a.id) m.ready
+
+abbrev pub ThreadsSeen : Type 0
+ThreadsSeen =
+    (start : RealTimeStart) (script : List (ℕ × Event)) (n : ℕ) (calls : List (ℕ × Call)) (k : ℕ) → k ≤ n
+    → IsSeen (real_after start script calls k) (seen k (real_time start script n calls))

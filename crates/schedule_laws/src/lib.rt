@@ -4,7 +4,7 @@
 //! proved of it is proved of every such pair.
 #![tactic(auto)]
 
-ghost use Rattle.schedule_laws.specs.Laws.{AlwaysTimely, CalmUnlatched, GuestDrains, LinesSay, LongerBare, LongerReal, LongerRuns, OneSolution, Priority, TickDrains, TickTimely, TwoGuests, UnitsShow};
+ghost use Rattle.schedule_laws.specs.Laws.{AlwaysTimely, CalmUnlatched, DrainedCalm, GuestDrains, LinesSay, LongerBare, LongerReal, LongerRuns, OneSolution, Priority, RunReady, ThreadsSeen, TickDrains, TickReady, TickTimely, TwoGuests, UnitsShow};
 
 /// For each guest start, real-time start, script and number of ticks there is exactly one pair of guest lines and real-time lines
 /// that meets both equations.
@@ -45,6 +45,11 @@ pub fn tick_timely()
     ensures { TickTimely }
 {}
 
+/// In a tick that drains, no line is latched and nothing is due between its drain and its unit.
+pub fn drained_calm()
+    ensures { DrainedCalm }
+{}
+
 /// After each tick the one-shot serves the nearest due, the guest's included.
 pub fn always_timely()
     ensures { AlwaysTimely }
@@ -59,4 +64,15 @@ pub fn calm_unlatched()
 pub fn guest_drains()
     ensures tick { TickDrains }
     ensures run { GuestDrains }
+{}
+
+/// The ready list is just the threads in state ready, each once, and there are 64 places for threads.
+pub fn threads_stay()
+    ensures tick { TickReady }
+    ensures run { RunReady }
+{}
+
+/// The live threads with their priorities, and the ready ones in their order, are those that are read off the real-time lines.
+pub fn threads_seen()
+    ensures { ThreadsSeen }
 {}

@@ -8,3 +8,5 @@ pub mod CallRows
 pub mod FaultRows
 pub mod OneShotRows
 pub mod AcknowledgementRows
+pub mod WaitRows
+pub mod SerialRows

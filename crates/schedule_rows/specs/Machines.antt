@@ -1,14 +1,15 @@
 -- Small machines, written in hexadecimal digits, and the lines of their runs.
-use Rattle.std.specs.Prelude.{ℕ, ◌+◌, ◌-◌, ◌*◌, ◌==◌, nat_lt, true, List, [], ◌∷◌, ◌++◌, length, take, drop, replicate, if◌then◌else◌}
+use Rattle.std.specs.Prelude.{ℕ, ◌+◌, ◌-◌, ◌*◌, ◌==◌, nat_lt, true, List, [], ◌∷◌, ◌++◌, length, take, drop, replicate, if◌then◌else◌, Option}
 use Rattle.device_script.specs.declared.event.Event.{Event}
 use Rattle.line_kinds.specs.declared.kinds.GLine.{GLine}
 use Rattle.line_kinds.specs.declared.kinds.HLine.{HLine}
 use Rattle.line_kinds.specs.declared.kinds.Line.{Line}
 use Rattle.line_kinds.specs.declared.kinds.RLine.{RLine}
-use Rattle.run_lines.specs.Calls.{calls_of}
+use Rattle.run_lines.specs.Calls.{calls_of, first_of}
 use Rattle.run_lines.specs.Ticks.{lines_to}
 use Rattle.bare_machine.specs.Run.{end_line}
 use Rattle.bare_machine.specs.State.{GuestStart, all_services}
+use Rattle.priority_schedule.specs.Run.{real_end}
 use Rattle.priority_schedule.specs.State.{RealTimeStart}
 use Rattle.hardware_lines.specs.Hardware.{hardware}
 use Rattle.run_output.specs.Output.{run_lines}
@@ -63,3 +64,7 @@ output_of guest start script n = run_lines true guest start script (all_r guest 
 -- the guest's first end line after n ticks
 abbrev pub guest_end : GuestStart → RealTimeStart → List (ℕ × Event) → ℕ → GLine
 guest_end guest start script n = end_line (both_after guest start script n).bare
+
+-- and the real-time side's: how many threads are live and how many ready
+abbrev pub real_time_end : GuestStart → RealTimeStart → List (ℕ × Event) → ℕ → Option RLine
+real_time_end guest start script n = first_of (real_end (both_after guest start script n).real)

@@ -32,6 +32,10 @@ pending_guest = guest_of 448 (
     ∷ (0x1a8, bytes_in (codes "40000800008e0000"))
     ∷ [])
 
+-- asks its serial port for an interrupt whenever it has nothing to send
+abbrev pub asking_guest : GuestStart
+asking_guest = guest_of 128 ((0, bytes_in (codes "b008 66bafc03 ee b002 66baf903 ee ebfe")) ∷ [])
+
 -- Modules
 
 -- creates a thread of priority 10 that waits for the first time until tick 20, then each 9 ticks
@@ -85,3 +89,19 @@ trapping_module = bytes_in (codes "cc")
 -- is no instruction
 abbrev pub opcode_module : List ℕ
 opcode_module = bytes_in (codes "0f0b")
+
+-- creates a thread that is first due at tick 20, and suspends it
+abbrev pub suspending_module : List ℕ
+suspending_module = bytes_in (codes "b802000000 bb33100100 b90a000000 ba00110100 cdf8 b806000000 31db b914000000 bae8030000 cdf8 b804000000 31db cdf8 c3 ebfe")
+
+-- creates a thread that sleeps for 7 ticks
+abbrev pub sleeping_module : List ℕ
+sleeping_module = bytes_in (codes "b802000000 bb17100100 b90a000000 ba00110100 cdf8 c3 b817000000 bb07000000 cdf8 ebfe")
+
+-- asks COM2 for an interrupt at each byte that it receives, and takes line 3
+abbrev pub receiving_module : List ℕ
+receiving_module = bytes_in (codes "b008 66bafc02 ee b001 66baf902 ee b812000000 bb03000000 b920100100 cdf8 c3 c3")
+
+-- prints three bytes
+abbrev pub printing_module : List ℕ
+printing_module = bytes_in (codes "b818000000 bb12100100 b903000000 cdf8 c3 72746c")

@@ -11,4 +11,4 @@ mod real_time;
 
 pub use guest::{breach_rows, guest_rows};
 pub use hardware::{acknowledgement_rows, one_shot_rows};
-pub use real_time::{call_rows, fault_rows, thread_rows, version_rows};
+pub use real_time::{call_rows, fault_rows, serial_rows, thread_rows, version_rows, wait_rows};

@@ -2,8 +2,10 @@
 
 ghost use Rattle.schedule_rows.specs.CallRows.{Calls, Owner, Replies};
 ghost use Rattle.schedule_rows.specs.FaultRows.{DivideFault, IntFault, MemoryFault, OpcodeFault, PortFault, PrivilegedFault};
+ghost use Rattle.schedule_rows.specs.SerialRows.{Printed, PrintedEnd, ReceivedByte, ReceivedEdges, UnitEdge};
 ghost use Rattle.schedule_rows.specs.ThreadRows.{BesideBreach, BesideIdle, BesideTimer, BreachLine, EqualPriorities, Periodic};
 ghost use Rattle.schedule_rows.specs.VersionRows.{ByArrival, EarliestDue};
+ghost use Rattle.schedule_rows.specs.WaitRows.{Sleeping, SleepingEnd, SleepingShots, Suspended, SuspendedEnd, SuspendedShots};
 
 /// Threads beside guests, row by row.
 pub fn thread_rows()
@@ -36,4 +38,23 @@ pub fn fault_rows()
     ensures int_fault { IntFault }
     ensures opcode_fault { OpcodeFault }
     ensures port_fault { PortFault }
+{}
+
+/// Threads that don't run, with the one-shot and their end lines, row by row.
+pub fn wait_rows()
+    ensures suspended { Suspended }
+    ensures suspended_shots { SuspendedShots }
+    ensures suspended_end { SuspendedEnd }
+    ensures sleeping { Sleeping }
+    ensures sleeping_shots { SleepingShots }
+    ensures sleeping_end { SleepingEnd }
+{}
+
+/// Lines of the serial ports, and what a module prints, row by row.
+pub fn serial_rows()
+    ensures unit_edge { UnitEdge }
+    ensures received_byte { ReceivedByte }
+    ensures received_edges { ReceivedEdges }
+    ensures printed { Printed }
+    ensures printed_end { PrintedEnd }
 {}
