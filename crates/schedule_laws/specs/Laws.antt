@@ -6,7 +6,7 @@ use Rattle.device_script.specs.declared.event.Event.{Event}
 use Rattle.line_kinds.specs.declared.kinds.GLine.{GLine}
 use Rattle.line_kinds.specs.declared.kinds.RLine.{RLine}
 use Rattle.line_kinds.specs.declared.kinds.Who.{Who}
-use Rattle.line_kinds.specs.declared.kinds.Who.TheVariants.{Guest, Thread}
+use Rattle.line_kinds.specs.declared.kinds.Who.TheVariants.{Guest, Thread as ThreadOn}
 use Rattle.line_kinds.specs.Calls.{Call}
 use Rattle.run_lines.specs.Calls.{calls_of}
 use Rattle.run_lines.specs.Says.{holder, held, pended, reply_in}
@@ -182,7 +182,7 @@ CalmUnlatched =
 
 abbrev pub TickDrains : Type 0
 TickDrains =
-    (t : ℕ) (events : List Event) (m : RealTime) → ((i : ℕ) → m.on ≡ Some (Thread i) → is_ready i m.ready ≡ true)
+    (t : ℕ) (events : List Event) (m : RealTime) → ((i : ℕ) → m.on ≡ Some (ThreadOn i) → is_ready i m.ready ≡ true)
     → (opened t events m).real.on ≡ Some Guest → drains m ≡ true
 
 abbrev pub GuestDrains : Type 0
