@@ -8,7 +8,7 @@ use Rattle.rt_threads.specs.Threads.{with_state, due_held, due_at, thread_at, wi
 use Rattle.rt_constants.specs.declared.limits.TheConstants.{THREADS_LIMIT}
 use Rattle.rt_timeline.specs.declared.timeline.ThreadDue.{ThreadDue}
 use Rattle.rt_timeline.specs.Dues.{come}
-use Rattle.priority_schedule.specs.Release.{Ticking, nearest, with_released, after_one, released, drained}
+use Rattle.priority_schedule.specs.Release.{Ticking, nearest, with_released, after_one, while_one, released, drained}
 use Rattle.priority_schedule.proofs.Dues.{come_of, come_by, all_above}
 
 abbrev has_come : ℕ → Option ℕ → Bool
@@ -50,7 +50,7 @@ one_fewer t threads d h =
 no_release : (k t : ℕ) (s : Ticking) → come t (nearest s.real.threads) ≡ None → released k t s ≡ s
 unfolding released
 no_release zero t s h = refl
-no_release (suc k) t s h = ap (λ o. released k t (after_one o s)) h ∙ no_release k t s h
+no_release (suc k) t s h = ap (λ o. while_one o (released k t) s) h
 
 none_left : (k t : ℕ) (s : Ticking) → coming t s.real.threads ≤ k → come t (nearest (released k t s).real.threads) ≡ None
 unfolding released
@@ -60,8 +60,8 @@ none_left zero t s h =
       | Some d ↦ λ e. let f = one_fewer t s.real.threads d e in absurd (omega (arith, f, h))
     ] refl
 none_left (suc k) t s h =
-    elim (come t (nearest s.real.threads)) as (λ o. come t (nearest s.real.threads) ≡ o → come t (nearest (released k t (after_one o s)).real.threads) ≡ None) [
-      | None ↦ λ e. ap (λ (x : Ticking). come t (nearest x.real.threads)) (no_release k t s e) ∙ e
+    elim (come t (nearest s.real.threads)) as (λ o. come t (nearest s.real.threads) ≡ o → come t (nearest (while_one o (released k t) s).real.threads) ≡ None) [
+      | None ↦ λ e. e
       | Some d ↦ λ e. let f = one_fewer t s.real.threads d e in none_left k t (with_released d s) (omega (arith, f, h))
     ] refl
 
@@ -74,13 +74,13 @@ all_released t s h i =
 released_more : (k t : ℕ) (s : Ticking) → coming t s.real.threads ≤ k → released (suc k) t s ≡ released k t s
 unfolding released
 released_more zero t s h =
-    elim (come t (nearest s.real.threads)) as (λ o. come t (nearest s.real.threads) ≡ o → after_one o s ≡ s) [
+    elim (come t (nearest s.real.threads)) as (λ o. come t (nearest s.real.threads) ≡ o → while_one o (released 0 t) s ≡ s) [
       | None ↦ λ e. refl
       | Some d ↦ λ e. let f = one_fewer t s.real.threads d e in absurd (omega (arith, f, h))
     ] refl
 released_more (suc k) t s h =
-    elim (come t (nearest s.real.threads)) as (λ o. come t (nearest s.real.threads) ≡ o → released (suc k) t (after_one o s) ≡ released k t (after_one o s)) [
-      | None ↦ λ e. no_release (suc k) t s e ∙ sym (no_release k t s e)
+    elim (come t (nearest s.real.threads)) as (λ o. come t (nearest s.real.threads) ≡ o → while_one o (released (suc k) t) s ≡ while_one o (released k t) s) [
+      | None ↦ λ e. refl
       | Some d ↦ λ e. let f = one_fewer t s.real.threads d e in released_more k t (with_released d s) (omega (arith, f, h))
     ] refl
 
@@ -88,8 +88,8 @@ released_more (suc k) t s h =
 pub released_stays : (t : ℕ) (s : Ticking) → length s.real.threads ≤ THREADS_LIMIT → released THREADS_LIMIT t (after_one (come t (nearest s.real.threads)) s) ≡ released THREADS_LIMIT t s
 unfolding released
 released_stays t s h =
-    elim (come t (nearest s.real.threads)) as (λ o. come t (nearest s.real.threads) ≡ o → released THREADS_LIMIT t (after_one o s) ≡ released 63 t (after_one o s)) [
-      | None ↦ λ e. no_release THREADS_LIMIT t s e ∙ sym (no_release 63 t s e)
+    elim (come t (nearest s.real.threads)) as (λ o. come t (nearest s.real.threads) ≡ o → released THREADS_LIMIT t (after_one o s) ≡ while_one o (released 63 t) s) [
+      | None ↦ λ e. no_release THREADS_LIMIT t s e
       | Some d ↦ λ e.
           let f = one_fewer t s.real.threads d e in
           let few = count_by-le-length (slot_comes t) s.real.threads in

@@ -53,10 +53,15 @@ abbrev pub after_one : Option ThreadDue → Ticking → Ticking
 after_one None s = s
 after_one (Some d) s = with_released d s
 
+-- where one is to be released it is, and what is next goes on from there
+abbrev pub while_one : Option ThreadDue → (Ticking → Ticking) → Ticking → Ticking
+while_one None next s = s
+while_one (Some d) next s = next (with_released d s)
+
 -- up to k threads whose due has come join, by due and then by number
 unfoldable pub released : ℕ → ℕ → Ticking → Ticking
 released zero t s = s
-released (suc k) t s = released k t (after_one (come t (nearest s.real.threads)) s)
+released (suc k) t s = while_one (come t (nearest s.real.threads)) (released k t) s
 
 -- the releases of tick t, where it drains
 abbrev pub drained : Bool → ℕ → Ticking → Ticking

@@ -20,7 +20,7 @@ use Rattle.rt_ready.specs.Order.{first_place}
 use Rattle.priority_schedule.specs.Pick.{pick}
 use Rattle.rt_constants.specs.declared.limits.TheConstants.{THREADS_LIMIT, FIFOS_LIMIT}
 use Rattle.rt_timeline.specs.Dues.{come}
-use Rattle.priority_schedule.specs.Release.{Ticking, nearest, after_one, released}
+use Rattle.priority_schedule.specs.Release.{Ticking, nearest, while_one, released}
 use Rattle.priority_schedule.specs.Run.{real_after, real_lines}
 use Rattle.priority_schedule.specs.State.{RealTime, RealTimeStart, first_state}
 use Rattle.priority_schedule.specs.Tick.{begun, com2_lines, marked_with, devices, turned_to, picked, acted, real_time_tick}
@@ -89,7 +89,7 @@ nobody_waits = refl
 none_released : (k t : ℕ) (s : Ticking) → nearest s.real.threads ≡ None → released k t s ≡ s
 unfolding released
 none_released zero t s h = refl
-none_released (suc k) t s h = ap (λ o. released k t (after_one (come t o) s)) h ∙ none_released k t s h
+none_released (suc k) t s h = ap (λ o. while_one (come t o) (released k t) s) h
 
 -- the guest is picked
 guest_first : (side : Side) (c : Serial) → pick true (idle_state side c None) ≡ Guest

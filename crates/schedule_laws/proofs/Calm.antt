@@ -7,7 +7,7 @@ use Rattle.priority_schedule.specs.Pick.{pick}
 use Rattle.rt_constants.specs.declared.limits.TheConstants.{THREADS_LIMIT}
 use Rattle.rt_timeline.specs.declared.timeline.ThreadDue.{ThreadDue}
 use Rattle.rt_timeline.specs.Dues.{come}
-use Rattle.priority_schedule.specs.Release.{Ticking, nearest, after_one, released, drained, drains}
+use Rattle.priority_schedule.specs.Release.{Ticking, nearest, with_released, while_one, released, drained, drains}
 use Rattle.priority_schedule.specs.State.{RealTime}
 use Rattle.priority_schedule.specs.Tick.{begun, com2_lines, after_devices, devices, is_on, started, turned_to, picked, opened, real_time_tick}
 use Rattle.priority_schedule.specs.Unit.{unit_of}
@@ -26,9 +26,8 @@ com2_calm : (m : RealTime) (o : Option ℕ) → Calm (record { real = m; lines =
 com2_calm m None = record { pends = λ p. refl; replies = λ xs. refl }
 com2_calm m (Some b) = record { pends = λ p. refl; replies = λ xs. refl }
 
-one_calm : (o : Option ThreadDue) (s : Ticking) → Calm s → Calm (after_one o s)
-one_calm None s h = h
-one_calm (Some d) s h = record {
+one_calm : (d : ThreadDue) (s : Ticking) → Calm s → Calm (with_released d s)
+one_calm d s h = record {
   pends = λ p. fold-append after_pend p s.lines (Release d.id ∷ []) ∙ h.pends p;
   replies = λ xs. ap reply_in (append_assoc s.lines (Release d.id ∷ []) xs) ∙ h.replies (Release d.id ∷ xs);
 }
@@ -36,7 +35,11 @@ one_calm (Some d) s h = record {
 released_calm : (k t : ℕ) (s : Ticking) → Calm s → Calm (released k t s)
 unfolding released
 released_calm zero t s h = h
-released_calm (suc k) t s h = released_calm k t (after_one (come t (nearest s.real.threads)) s) (one_calm (come t (nearest s.real.threads)) s h)
+released_calm (suc k) t s h =
+    elim (come t (nearest s.real.threads)) as (λ o. Calm (while_one o (released k t) s)) [
+      | None ↦ h
+      | Some d ↦ released_calm k t (with_released d s) (one_calm d s h)
+    ]
 
 if_calm : (b : Bool) (x y : Ticking) → Calm x → Calm y → Calm (if b then x else y)
 if_calm true x y p q = p

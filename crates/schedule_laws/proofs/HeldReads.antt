@@ -35,7 +35,7 @@ use Rattle.priority_schedule.specs.Pick.{pick}
 use Rattle.rt_constants.specs.declared.limits.TheConstants.{THREADS_LIMIT}
 use Rattle.rt_timeline.specs.declared.timeline.ThreadDue.{ThreadDue}
 use Rattle.rt_timeline.specs.Dues.{come}
-use Rattle.priority_schedule.specs.Release.{Ticking, nearest, after_one, released, drained, drains}
+use Rattle.priority_schedule.specs.Release.{Ticking, nearest, with_released, while_one, released, drained, drains}
 use Rattle.priority_schedule.specs.Run.{real_after, real_lines, real_end, real_time}
 use Rattle.rt_ready.specs.Order.{is_ready, joined}
 use Rattle.priority_schedule.specs.State.{RealTime, RealTimeStart, first_state, parts_of, with_parts}
@@ -314,14 +314,17 @@ com2_holds : (lines : ℕ) (m : RealTime) (o : Option ℕ) → Holds m.irqs.entr
 com2_holds lines m None h = h
 com2_holds lines m (Some b) h = h
 
-after_one_holds : (lines : ℕ) (o : Option ThreadDue) (s : Ticking) → TickHolds lines s → TickHolds lines (after_one o s)
-after_one_holds lines None s h = h
-after_one_holds lines (Some d) s h = subst (λ n. Holds s.real.irqs.entries n) (sym (fold-append after_owner lines s.lines (Release d.id ∷ []))) h
+one_holds : (lines : ℕ) (d : ThreadDue) (s : Ticking) → TickHolds lines s → TickHolds lines (with_released d s)
+one_holds lines d s h = subst (λ n. Holds s.real.irqs.entries n) (sym (fold-append after_owner lines s.lines (Release d.id ∷ []))) h
 
 released_holds : (lines k t : ℕ) (s : Ticking) → TickHolds lines s → TickHolds lines (released k t s)
 unfolding released
 released_holds lines zero t s h = h
-released_holds lines (suc k) t s h = released_holds lines k t (after_one (come t (nearest s.real.threads)) s) (after_one_holds lines (come t (nearest s.real.threads)) s h)
+released_holds lines (suc k) t s h =
+    elim (come t (nearest s.real.threads)) as (λ o. TickHolds lines (while_one o (released k t) s)) [
+      | None ↦ h
+      | Some d ↦ released_holds lines k t (with_released d s) (one_holds lines d s h)
+    ]
 
 if_ticking : (P : Ticking → Type 0) (b : Bool) (x y : Ticking) → P x → P y → P (if b then x else y)
 if_ticking P true x y p q = p

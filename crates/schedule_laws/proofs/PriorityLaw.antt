@@ -15,9 +15,8 @@ use Rattle.rt_ready.specs.declared.ready.Place.{Place}
 use Rattle.priority_schedule.specs.Pick.{pick, pick_after, next_activity, next_module, first_of_all, first_ready}
 use Rattle.priority_schedule.specs.Priority.{Seen, after_line, seen, seen_released, is_in, is_release, priority_seen, HoldsRightly, KeepsTick, KeepsPriority}
 use Rattle.rt_constants.specs.declared.limits.TheConstants.{THREADS_LIMIT}
-use Rattle.rt_timeline.specs.declared.timeline.ThreadDue.{ThreadDue}
 use Rattle.rt_timeline.specs.Dues.{come}
-use Rattle.priority_schedule.specs.Release.{Ticking, nearest, after_one, released, drained, drains}
+use Rattle.priority_schedule.specs.Release.{Ticking, nearest, with_released, while_one, released, drained, drains}
 use Rattle.priority_schedule.specs.Run.{real_after, real_lines, real_end, real_time}
 use Rattle.rt_ready.specs.Order.{is_ready}
 use Rattle.rt_threads.specs.Threads.{priority_of, priority_in}
@@ -196,14 +195,11 @@ turned_reads z s who on_is h =
 
 -- what is on stays until the pick
 
-one_on : (o : Option ThreadDue) (s : Ticking) → (after_one o s).real.on ≡ s.real.on
-one_on None s = refl
-one_on (Some d) s = refl
-
 released_on : (k t : ℕ) (s : Ticking) → (released k t s).real.on ≡ s.real.on
 unfolding released
 released_on zero t s = refl
-released_on (suc k) t s = released_on k t (after_one (come t (nearest s.real.threads)) s) ∙ one_on (come t (nearest s.real.threads)) s
+released_on (suc k) t s =
+    elim (come t (nearest s.real.threads)) as (λ o. (while_one o (released k t) s).real.on ≡ s.real.on) [ None ↦ refl | Some d ↦ released_on k t (with_released d s) ]
 
 drained_on : (draining : Bool) (t : ℕ) (s : Ticking) → (drained draining t s).real.on ≡ s.real.on
 drained_on draining t s = elim draining as (λ b. (if b then released THREADS_LIMIT t s else s).real.on ≡ s.real.on) [ true ↦ released_on THREADS_LIMIT t s | false ↦ refl ]

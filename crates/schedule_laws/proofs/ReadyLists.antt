@@ -29,7 +29,7 @@ use Rattle.module_gates.specs.Gates.{Request, GateParts, Answered, succeeds, fai
 use Rattle.run_lines.specs.Calls.{call_at}
 use Rattle.run_lines.specs.Ticks.{at_tick}
 use Rattle.priority_schedule.specs.Pick.{pick}
-use Rattle.priority_schedule.specs.Release.{Ticking, nearest, with_released, after_one, released, drained, drains}
+use Rattle.priority_schedule.specs.Release.{Ticking, nearest, with_released, while_one, released, drained, drains}
 use Rattle.priority_schedule.specs.Run.{real_after}
 use Rattle.priority_schedule.specs.State.{RealTime, RealTimeStart, first_state, parts_of, with_parts}
 use Rattle.priority_schedule.specs.Tick.{begun, devices, is_on, started, turned_to, picked, opened, real_time_tick}
@@ -339,9 +339,8 @@ waiting_slot : (o : Option Thread) (due : ℕ) → due_held o ≡ Some due → (
 waiting_slot None due e = absurd cc
 waiting_slot (Some th) due e = (elim th.state as (λ s. due_of s ≡ Some due → is_ready_state s ≡ false) [ Ready ↦ λ f. absurd cc | Waiting d ↦ λ f. refl | Suspended ↦ λ f. refl ] e, refl)
 
-one_list : (t : ℕ) (s : Ticking) (o : Option ThreadDue) → come t (nearest s.real.threads) ≡ o → StateList s.real → StateList (after_one o s).real
-one_list t s None e h = h
-one_list t s (Some d) e h =
+one_list : (t : ℕ) (s : Ticking) (d : ThreadDue) → come t (nearest s.real.threads) ≡ Some d → StateList s.real → StateList (with_released d s).real
+one_list t s d e h =
     let p = come_of t s.real.threads d e in
     let number : p.place ≡ d.id = let f = p.number in omega (arith, f) in
     let slot = waiting_slot (thread_at s.real.threads p.place) d.due p.due in
@@ -352,7 +351,11 @@ one_list t s (Some d) e h =
 released_list : (k t : ℕ) (s : Ticking) → StateList s.real → StateList (released k t s).real
 unfolding released
 released_list zero t s h = h
-released_list (suc k) t s h = released_list k t (after_one (come t (nearest s.real.threads)) s) (one_list t s (come t (nearest s.real.threads)) refl h)
+released_list (suc k) t s h =
+    elim (come t (nearest s.real.threads)) as (λ o. come t (nearest s.real.threads) ≡ o → StateList (while_one o (released k t) s).real) [
+      | None ↦ λ e. h
+      | Some d ↦ λ e. released_list k t (with_released d s) (one_list t s d e h)
+    ] refl
 
 if_list : (b : Bool) (x y : Ticking) → StateList x.real → StateList y.real → StateList (if b then x else y).real
 if_list true x y p q = p

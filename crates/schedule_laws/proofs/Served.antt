@@ -19,7 +19,7 @@ use Rattle.rt_irqs.specs.Irqs.{handler_order}
 use Rattle.hardware_lines.specs.Timely.{Ahead, Timely, IsTimely}
 use Rattle.rt_constants.specs.declared.limits.TheConstants.{THREADS_LIMIT}
 use Rattle.rt_timeline.specs.declared.timeline.ThreadDue.{ThreadDue}
-use Rattle.priority_schedule.specs.Release.{Ticking, nearest, after_one, released, drained, drains}
+use Rattle.priority_schedule.specs.Release.{Ticking, nearest, while_one, released, drained, drains}
 use Rattle.priority_schedule.specs.State.{RealTime, RealTimeStart, first_state as first_real}
 use Rattle.priority_schedule.specs.Run.{real_after}
 use Rattle.priority_schedule.specs.Tick.{begun, devices, is_on, started, turned_to, picked, opened}
@@ -111,7 +111,7 @@ rise_edge false edges h = absurd cc
 none_released : (k t : ℕ) (s : Ticking) → come t (nearest s.real.threads) ≡ None → released k t s ≡ s
 unfolding released
 none_released zero t s h = refl
-none_released (suc k) t s h = ap (λ o. released k t (after_one o s)) h ∙ none_released k t s h
+none_released (suc k) t s h = ap (λ o. while_one o (released k t) s) h
 
 pub none_drained : (draining : Bool) (t : ℕ) (s : Ticking) → come t (nearest s.real.threads) ≡ None → drained draining t s ≡ s
 none_drained draining t s h = elim draining as (λ b. (if b then released THREADS_LIMIT t s else s) ≡ s) [ true ↦ none_released THREADS_LIMIT t s h | false ↦ refl ]

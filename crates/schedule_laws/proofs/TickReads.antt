@@ -12,7 +12,7 @@ use Rattle.priority_schedule.specs.Priority.{Seen, after_line, thread_ends, is_r
 use Rattle.rt_constants.specs.declared.limits.TheConstants.{THREADS_LIMIT}
 use Rattle.rt_timeline.specs.declared.timeline.ThreadDue.{ThreadDue}
 use Rattle.rt_timeline.specs.Dues.{come}
-use Rattle.priority_schedule.specs.Release.{Ticking, nearest, with_released, after_one, released, drained}
+use Rattle.priority_schedule.specs.Release.{Ticking, nearest, with_released, while_one, released, drained}
 use Rattle.rt_threads.specs.Threads.{is_live, given_registers, with_state}
 use Rattle.priority_schedule.specs.State.{RealTime, parts_of, with_parts}
 use Rattle.priority_schedule.specs.Tick.{begun, com2_lines, after_devices, devices}
@@ -137,15 +137,14 @@ one_released d s z l h =
       quiet = fold-append held_by z.who s.lines (Release d.id ∷ []) ∙ h.quiet;
     }
 
-after_one_reads : (o : Option ThreadDue) (s : Ticking) (z : Seen) → ((d : ThreadDue) → o ≡ Some d → is_live s.real.threads d.id ≡ true) → Releases z s → Releases z (after_one o s)
-after_one_reads None s z l h = h
-after_one_reads (Some d) s z l h = one_released d s z (l d refl) h
-
 pub released_reads : (k t : ℕ) (s : Ticking) (z : Seen) → Releases z s → Releases z (released k t s)
 unfolding released
 released_reads zero t s z h = h
 released_reads (suc k) t s z h =
-    released_reads k t (after_one (come t (nearest s.real.threads)) s) z (after_one_reads (come t (nearest s.real.threads)) s z (come_live t s.real.threads) h)
+    elim (come t (nearest s.real.threads)) as (λ o. come t (nearest s.real.threads) ≡ o → Releases z (while_one o (released k t) s)) [
+      | None ↦ λ e. h
+      | Some d ↦ λ e. released_reads k t (with_released d s) z (one_released d s z (come_live t s.real.threads d e) h)
+    ] refl
 
 if_ticking : (P : Ticking → Type 0) (b : Bool) (x y : Ticking) → P x → P y → P (if b then x else y)
 if_ticking P true x y p q = p
