@@ -18,7 +18,7 @@ fn a_held_line_is_marked_and_line_3_is_dropped(rt: HostRuntime) {
     pair.edge(1);
     pair.edge(0);
     let drained = drain(&mut pair, &mut irqs);
-    assert!(rt; drained.taken.as_slice() == &[0, 1, 9, 3]);
+    assert!(rt; drained.taken.as_slice() == [0, 1, 9, 3].as_slice());
     assert_eq!(rt; drained.acknowledged, 0x020B);
     assert_eq!(rt; drained.guest, 0x0002);
     assert!(rt; drained.timer);
