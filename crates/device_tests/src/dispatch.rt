@@ -3,7 +3,7 @@
 // line that a module holds is marked for it, line 3 is dropped where no module holds it, and each other line is the guest's. A
 // module may hold the lines 1, 3 and 5 to 15.
 
-use hard_dispatch::{Drained, drain, take_first, take_line};
+use hard_dispatch::{drain, take_first, take_line};
 use pic_8259::Pair;
 use rt_irqs::Irqs;
 
@@ -17,14 +17,11 @@ fn a_held_line_is_marked_and_line_3_is_dropped(rt: HostRuntime) {
     pair.edge(3);
     pair.edge(1);
     pair.edge(0);
-    assert_eq!(rt;
-        drain(&mut pair, &mut irqs),
-        Drained {
-            acknowledged: 0x020B,
-            guest: 0x0002,
-            timer: true
-        }
-    );
+    let drained = drain(&mut pair, &mut irqs);
+    assert!(rt; drained.taken.as_slice() == [0, 1, 9, 3].as_slice());
+    assert_eq!(rt; drained.acknowledged, 0x020B);
+    assert_eq!(rt; drained.guest, 0x0002);
+    assert!(rt; drained.timer);
     assert_eq!(rt; irqs.next(), Some(9));
     assert_eq!(rt; pair.request(), None);
 }

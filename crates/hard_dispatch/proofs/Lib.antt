@@ -2,3 +2,4 @@ pub mod Alone
 pub mod Owners
 pub mod Requests
 pub mod Turns
+pub mod SetsKept

@@ -28,7 +28,7 @@ unfolding held_lines
 has-held_lines l n = has-set_of l.entries n
 
 -- the timer's line and the real-time side's serial port
-has-nine : (n : ℕ) → has 9 n ≡ (n == 0 || n == 3)
+pub has-nine : (n : ℕ) → has 9 n ≡ (n == 0 || n == 3)
 has-nine zero = refl
 has-nine (suc zero) = refl
 has-nine (suc (suc zero)) = refl

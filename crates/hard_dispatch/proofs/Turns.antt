@@ -1,5 +1,5 @@
 -- The lines of a latch are taken one after another in the order of the cascade.
-use Rattle.std.proofs.Common.{◌≡◌, ℕ, ◌-◌, ◌<◌, ◌≤◌, ◌≢◌, Bool, true, false, not, ◌&&◌, ◌||◌, cond, ◌==◌, suc, leb, refl, sym, ap, ◌∙◌, subst, arith, ⊎_elim, Option, Some, None, List, [], ◌∷◌}
+use Rattle.std.proofs.Common.{◌≡◌, ℕ, ◌-◌, ◌<◌, ◌≤◌, ◌≢◌, Bool, true, false, not, ◌&&◌, ◌||◌, cond, ◌==◌, suc, leb, refl, sym, ap, ◌∙◌, subst, arith, ⊎_elim, Option, Some, None, List, [], ◌∷◌, ◌++◌, length, append_assoc, append-nil, length-append}
 use Rattle.std.specs.List.{filter}
 use Rattle.std.proofs.lemmas.Bool.Decides.{nat_tests, leb_tells}
 use Rattle.line_sets.specs.LineSet.{has, with_line, without_line, first_in}
@@ -72,6 +72,56 @@ rest_picked (k ∷ order) lines n rest d e =
       | false ↦ λ here s.
           (ap (λ b. cond b (k ∷ picked order (without_line lines n)) (picked order (without_line lines n))) (has-without_kept lines n k here) ∙ rest_picked order lines n rest (both_right (not_among k order) (distinct order) d) s)
     ] refl e
+
+some_same : (a b : ℕ) → Some a ≡ Some b → a ≡ b
+some_same a b e = cc
+
+turn : (xs : List ℕ) (latch n : ℕ) → picked acknowledge_order latch ≡ xs → first_in acknowledge_order latch ≡ Some n → xs ≡ n ∷ picked acknowledge_order (without_line latch n)
+turn [] latch n e f = absurd (let g : Some n ≡ None = sym f ∙ (first_of_picked acknowledge_order latch ∙ ap head_of e) in cc)
+turn (k ∷ rest) latch n e f =
+    let same : k ≡ n = some_same k n (sym (sym f ∙ (first_of_picked acknowledge_order latch ∙ ap head_of e))) in
+    let left : picked acknowledge_order (without_line latch n) ≡ rest = rest_picked acknowledge_order latch n rest refl (e ∙ ap (λ x. x ∷ rest) same) in
+    ap (λ x. x ∷ rest) same ∙ ap (λ xs. n ∷ xs) (sym left)
+
+-- the first line that stands is the first in the order, and the others follow
+pub next_turn : (latch n : ℕ) → first_in acknowledge_order latch ≡ Some n → in_order latch ≡ n ∷ in_order (without_line latch n)
+unfolding in_order
+next_turn latch n first = turn (picked acknowledge_order latch) latch n refl first
+
+pub no_turn : in_order 0 ≡ []
+unfolding in_order
+no_turn = refl
+
+no_longer : (b : Bool) (n : ℕ) (xs : List ℕ) (k : ℕ) → length xs ≤ k → length (cond b (n ∷ xs) xs) ≤ suc k
+no_longer true n xs k h = omega (arith, h)
+no_longer false n xs k h = omega (arith, h)
+
+picked_short : (order : List ℕ) (lines : ℕ) → length (picked order lines) ≤ length order
+picked_short [] lines = omega arith
+picked_short (n ∷ order) lines = no_longer (has lines n) n (picked order lines) (length order) (picked_short order lines)
+
+-- the cascade has no turn, so at most 15 lines have one
+pub few_turns : (lines : ℕ) → length (in_order lines) ≤ 15
+unfolding in_order
+few_turns lines = picked_short acknowledge_order lines
+
+-- what was taken and what still has a turn
+pub turns_on : (taken now : List ℕ) (latch left n : ℕ) (all : List ℕ) → now ≡ taken ++ n ∷ [] → left ≡ without_line latch n → first_in acknowledge_order latch ≡ Some n
+    → taken ++ in_order latch ≡ all → now ++ in_order left ≡ all
+turns_on taken now latch left n all e f first h =
+    ap (λ xs. xs ++ in_order left) e ∙ append_assoc taken (n ∷ []) (in_order left)
+    ∙ ap (λ x. taken ++ n ∷ in_order x) f ∙ ap (λ xs. taken ++ xs) (sym (next_turn latch n first)) ∙ h
+
+-- so there is room for a line that has a turn
+pub turn_fits : (taken : List ℕ) (latch n start : ℕ) → first_in acknowledge_order latch ≡ Some n → taken ++ in_order latch ≡ in_order start → length taken < 16
+turn_fits taken latch n start first h =
+    let sum = sym (length-append taken (in_order latch)) ∙ ap length h in
+    let more = ap length (next_turn latch n first) in
+    omega (arith, sum, more, few_turns start)
+
+-- in the end all were taken
+pub all_turned : (taken : List ℕ) (left : ℕ) (all : List ℕ) → left ≡ 0 → taken ++ in_order left ≡ all → taken ≡ all
+all_turned taken left all none h = sym (ap (λ x. taken ++ in_order x) none ∙ (ap (λ xs. taken ++ xs) no_turn ∙ append-nil taken)) ∙ h
 
 -- what is true of each pair stays true when a line was taken
 pair-lowered : (p : Controllers) (n : ℕ) → IsPair p → IsPair (lowered n p)

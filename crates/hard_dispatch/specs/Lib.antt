@@ -1,2 +1,3 @@
 pub mod Dispatch
 pub mod Service
+pub mod Sets

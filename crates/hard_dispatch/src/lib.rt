@@ -7,6 +7,6 @@ mod dispatch;
 mod laws;
 mod service;
 
-pub use dispatch::{Drained, drain};
-pub use laws::goes_to_owner;
+pub use dispatch::{Drained, LINES, drain};
+pub use laws::{changes_owner, drained_sets, goes_to_owner, rises_ask};
 pub use service::{take_first, take_line};

@@ -40,12 +40,11 @@ impl Pending {
         self.marked = with_line32(self.marked, line);
     }
 
-    /// Marks each line of a set of lines 0 to 15.
-    #[tactic(auto, unfolding(line_sets::specs::LineSet::union))]
-    pub fn mark_all(&mut self, lines: u16)
+    /// Marks each line of a set.
+    pub fn mark_all(&mut self, lines: u32)
         ensures { self.new ≡ union self.old lines }
     {
-        self.marked |= u32::from(lines);
+        self.marked |= lines;
     }
 
     /// Clears a line's mark, if it has one.

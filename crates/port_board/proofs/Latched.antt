@@ -19,7 +19,7 @@ use Rattle.port_board.specs.declared.board.Board.{Board}
 use Rattle.port_board.proofs.Lines.{good_line}
 
 -- the pair keeps its invariant over a rise
-risen_pair : (n : ℕ) (p : Controllers) → n < 16 → n ≢ 2 → IsPair p → IsPair (risen n p)
+pub risen_pair : (n : ℕ) (p : Controllers) → n < 16 → n ≢ 2 → IsPair p → IsPair (risen n p)
 risen_pair n p small ne k =
     elim (cases_Bool (n == 2)) [
       | inl same ↦ rw same k
@@ -90,12 +90,18 @@ sampled_holds p n s h =
 or_false : (a b : Bool) → b ≡ false → a ≡ (a || b)
 or_false a b e = grind arith
 
-pub step_holds : (b : Board) (events : List Event) (n : ℕ) → IsPair b.pair → AreEvents events
-    → has (latch_of (device_step events b).board.pair) n ≡ (has (latch_of b.pair) n || has (device_step events b).lines n)
-step_holds b events n is are =
+whole_step : (b : Board) (events : List Event) (n : ℕ) → IsPair b.pair → AreEvents events → Holds b.pair n (device_step events b)
+whole_step b events n is are =
     let s : Rising = record { board = b; lines = 0 } in
     let start : Holds b.pair n s = record { pair = is; lines = or_false (has (latch_of b.pair) n) (has 0 n) (has-zero n) } in
     let pulses = once_holds b.pair n (pulsed_once s) (once_holds b.pair n s start) in
-    let whole = sampled_holds b.pair n (events_done events (coms_ticked (pulsed_once (pulsed_once s))))
-    (events_hold b.pair n events (coms_ticked (pulsed_once (pulsed_once s))) are (record { pair = pulses.pair; lines = pulses.lines })) in
-    whole.lines
+    sampled_holds b.pair n (events_done events (coms_ticked (pulsed_once (pulsed_once s))))
+    (events_hold b.pair n events (coms_ticked (pulsed_once (pulsed_once s))) are (record { pair = pulses.pair; lines = pulses.lines }))
+
+pub step_holds : (b : Board) (events : List Event) (n : ℕ) → IsPair b.pair → AreEvents events
+    → has (latch_of (device_step events b).board.pair) n ≡ (has (latch_of b.pair) n || has (device_step events b).lines n)
+step_holds b events n is are = (whole_step b events n is are).lines
+
+-- the pair keeps what is true of each pair
+pub step_pair : (b : Board) (events : List Event) → IsPair b.pair → AreEvents events → IsPair (device_step events b).board.pair
+step_pair b events is are = (whole_step b events 0 is are).pair

@@ -2,3 +2,8 @@ pub mod Lines
 pub mod Shots
 pub mod Latched
 pub mod Sampled
+pub mod ShotLeft
+pub mod PairKept
+pub mod LineRises
+pub mod DeviceSteps
+pub mod TickSteps

@@ -1,11 +1,18 @@
 // The devices, their lines, and accesses to their ports.
 
-ghost use Rattle.std.specs.Prelude.{◌≡◌, ◌<◌, ◌≤◌, if◌then◌else◌, IsTrue};
+ghost use Rattle.std.specs.Prelude.{◌≡◌, ◌<◌, ◌≤◌, ◌||◌, if◌then◌else◌, IsTrue, ℕ, Some};
+ghost use Rattle.line_sets.specs.LineSet.{has};
+ghost use Rattle.pic_8259.specs.Controllers.{IsPair, latch_of};
+ghost use Rattle.pic_8259.specs.Boot.{IsBooted};
+ghost use Rattle.pit_8254.specs.Timer.{all_pulsed};
+ghost use Rattle.port_map.specs.declared.owner.Owner.{Owner};
 ghost use Rattle.cpu_state.specs.Width.{size};
 ghost use Rattle.cpu_state.specs.Bus.{all_mine};
 ghost use Rattle.port_map.specs.Serial.{sampled_now};
 ghost use Rattle.device_script.specs.Event.{is_device_event};
-ghost use Rattle.port_board.specs.OneShot.{one_shot_set};
+ghost use Rattle.port_board.specs.OneShot.{one_shot_set, one_less};
+ghost use Rattle.port_board.specs.Left.{ticks_left, IsShot};
+ghost use Rattle.port_board.specs.Steps.{line_rises, serial_stepped};
 ghost use Rattle.port_board.specs.Board.{IsSampled, rises_of, rises_taken, serial_of, accessed, rises_if, com1_sampled, com2_sampled, sampled, ports_of, pulsed_once, event_done, events_done, AreEvents, device_step, edges_of, new_board};
 
 use cpu_state::Width;
@@ -221,12 +228,22 @@ impl Board {
     }
 
     /// The device step of a tick: two pulses of the timer, one tick of each serial port, the script's events of this tick
-    /// in their order, and the sampling of the serial ports' lines.
+    /// in their order, and the sampling of the serial ports' lines. Line 0 rises where the one-shot has one tick left, 4 and 3
+    /// where COM1's and COM2's lines do, and the others where the script says so. A pair as after the boot stays one.
     pub fn tick(&mut self, events: &[Event]) -> Edges
         requires { AreEvents events.now }
         ensures edges { result ≡ edges_of events.now self.old }
         ensures after { self.new ≡ (device_step events.now self.old).board }
         ensures sampled { IsSampled self.new }
+        ensures booted { IsBooted self.old.pair → IsBooted self.new.pair }
+        ensures pair { IsPair self.old.pair → IsPair self.new.pair }
+        ensures latched { IsPair self.old.pair → (n : ℕ) → has (latch_of self.new.pair) n ≡ (has (latch_of self.old.pair) n || has result.lines n) }
+        ensures rising { IsShot self.old → (n : ℕ) → has result.lines n ≡ line_rises events.now self.old self.new n }
+        ensures left { IsShot self.old → ticks_left self.new ≡ one_less (ticks_left self.old) }
+        ensures shot { IsShot self.old → IsShot self.new }
+        ensures timer { self.new.pit ≡ all_pulsed (all_pulsed self.old.pit) }
+        ensures serial { (owner : Owner) → serial_of owner self.new ≡ serial_stepped owner events.now (serial_of owner self.old) }
+        ensures rises { rises_of self.new ≡ rises_of self.old }
     {
         let lines = self.pulse(0);
         let lines = self.pulse(lines);
@@ -237,11 +254,20 @@ impl Board {
         Edges { lines, com1, com2 }
     }
 
-    /// Sets the timer's counter 0 as a one-shot that rises in the device step of so many ticks from now.
+    /// Sets the timer's counter 0 as a one-shot that rises in the device step of so many ticks from now. The controllers, the
+    /// other counters and the serial ports stay.
     pub fn set_one_shot(&mut self, ticks: u16)
         requires some { 1 ≤ ticks }
         requires most { ticks ≤ 32768 }
-        ensures { self.new ≡ one_shot_set ticks self.old }
+        ensures set { self.new ≡ one_shot_set ticks self.old }
+        ensures left { ticks_left self.new ≡ Some ticks }
+        ensures shot { IsShot self.new }
+        ensures pair { self.new.pair ≡ self.old.pair }
+        ensures counter1 { self.new.pit.counter1 ≡ self.old.pit.counter1 }
+        ensures counter2 { self.new.pit.counter2 ≡ self.old.pit.counter2 }
+        ensures serial { (owner : Owner) → serial_of owner self.new ≡ serial_of owner self.old }
+        ensures sampled { IsSampled self.old → IsSampled self.new }
+        ensures rises { rises_of self.new ≡ rises_of self.old }
     {
         let count = 2 * ticks as u32 - 1;
         self.pit.write(CONTROL_WORD, ONE_SHOT);

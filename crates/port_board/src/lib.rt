@@ -7,4 +7,7 @@ mod board;
 mod laws;
 
 pub use board::{Board, Edges, NotYours};
-pub use laws::{latches_rises, samples_owner_alone, sets_one_shot, ticks_one_shot};
+pub use laws::{
+    counts_down, device_steps, latches_rises, reads_one_shot, samples_owner_alone, sets_one_shot,
+    sets_ticks_left, ticks_one_shot,
+};

@@ -22,7 +22,7 @@ const NOT_THE_GUESTS: u16 = 0x0009;
 pub fn mark(lines: u16, pending: &mut Pending)
     ensures { pending.new ≡ union pending.old (minus lines 9) }
 {
-    pending.mark_all(minus16(lines, NOT_THE_GUESTS));
+    pending.mark_all(u32::from(minus16(lines, NOT_THE_GUESTS)));
 }
 
 // The board takes a tick and the script's events of it. The lines that rise are marked for the guest, and the byte that leaves COM1 is

@@ -1,6 +1,6 @@
 -- The lines of the real-time side: the hard lines that modules hold, with the entries of their handlers, those of them that are
 -- marked, and the soft lines that are taken.
-use Rattle.std.specs.Prelude.{◌≡◌, ◌<◌, ◌≤◌, ℕ, zero, suc, ◌^◌, Bool, true, not, ◌&&◌, ◌||◌, ◌==◌, nat_le, if◌then◌else◌, Option, Some, None, is_some, List, [], ◌∷◌, ◌++◌, length, slice_index_or, slice_set, replicate, find, ℤ, pos, negsuc}
+use Rattle.std.specs.Prelude.{◌≡◌, ◌<◌, ◌≤◌, ℕ, zero, suc, ◌^◌, Bool, true, not, ◌&&◌, ◌||◌, ◌==◌, nat_le, nat_lt, if◌then◌else◌, Option, Some, None, is_some, List, [], ◌∷◌, ◌++◌, length, slice_index_or, slice_set, replicate, find, ℤ, pos, negsuc}
 use Rattle.std.specs.List.{range_with_len}
 use Rattle.line_sets.specs.LineSet.{has, with_line, without_line, first_in}
 
@@ -75,9 +75,18 @@ abbrev pub line_taken : Option ℕ → Lines → Lines
 line_taken None l = l
 line_taken (Some n) l = record l { soft = with_line l.soft n }
 
+-- is the soft line taken? Numbers come in as words of 32 bits, and the test of the number is first: so a large one is no line by
+-- computation
+abbrev pub has_soft : Lines → ℕ → Bool
+has_soft l n = nat_lt n 32 && has l.soft n
+
+-- may the line be marked for the guest? Each hard line, and the soft lines that are taken
+abbrev pub is_pendable : Lines → ℕ → Bool
+is_pendable l n = nat_lt n 16 || has_soft l n
+
 -- a module gives a soft line back: EINVAL where it isn't taken
 abbrev pub free_soft_result : Lines → ℕ → ℤ
-free_soft_result l n = if has l.soft n then pos 0 else failed 22
+free_soft_result l n = if has_soft l n then pos 0 else failed 22
 
 abbrev pub soft_freed : Lines → ℕ → Lines
-soft_freed l n = if has l.soft n then record l { soft = without_line l.soft n } else l
+soft_freed l n = if has_soft l n then record l { soft = without_line l.soft n } else l

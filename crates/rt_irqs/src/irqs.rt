@@ -1,7 +1,7 @@
 // The lines, their handlers and marks.
 ghost use Rattle.std.specs.Prelude.{◌≡◌, ◌<◌, ◌≤◌, IfSome, IsTrue, true, Some};
 ghost use Rattle.line_sets.specs.LineSet.{has, with_line, without_line};
-ghost use Rattle.rt_irqs.specs.Irqs.{IsLines, entry_of, is_held, is_holdable, no_lines, request_result, requested, free_result, freed, next_of, free_soft_line, line_result, line_taken, free_soft_result, soft_freed};
+ghost use Rattle.rt_irqs.specs.Irqs.{IsLines, entry_of, is_held, is_holdable, no_lines, request_result, requested, free_result, freed, next_of, free_soft_line, line_result, line_taken, free_soft_result, soft_freed, has_soft, is_pendable};
 
 use line_sets::{
     has_line16, has_line32, lowest16, lowest32, minus32, with_line16, with_line32, without_line16,
@@ -204,9 +204,17 @@ impl Irqs {
         0
     }
 
-    /// Whether the soft line is taken.
+    /// Whether a line may be marked for the guest: a hard line, or a soft one that is taken.
+    pub fn is_pendable(&self, line: u32) -> bool
+        ensures pendable { result ≡ is_pendable self.now line }
+        ensures below { IsTrue result → line < 32 }
+    {
+        line < HARD_LINES || self.has_soft(line)
+    }
+
+    /// Whether the soft line is taken; no line from 32 on is.
     pub fn has_soft(&self, line: u32) -> bool
-        ensures taken { result ≡ has self.now.soft line }
+        ensures taken { result ≡ has_soft self.now line }
         ensures soft { IsTrue result → 16 ≤ line }
         ensures below { IsTrue result → line < 32 }
         ensures lines { IsLines self.now }
