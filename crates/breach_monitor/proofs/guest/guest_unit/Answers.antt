@@ -15,6 +15,5 @@ returns-in-Next-clause-unit c = record {
   pair = unit_left_pair Guest _ _ _ c.step.ensures.effect;
 }
 
--- that no other goal is looked for where this one fails
 pub returns-in-Trap-clause-unit : goal.returns-in-Trap-clause-unit
 returns-in-Trap-clause-unit c = search rules
