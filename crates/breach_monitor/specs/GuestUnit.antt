@@ -1,5 +1,9 @@
 -- What a unit of the guest comes to, from what the processor's unit came to.
 use Rattle.std.specs.Prelude.{ℕ, nat_le, nat_lt, if◌then◌else◌}
+use Rattle.cpu_state.specs.Bus.{State, Ports}
+use Rattle.cpu_state.specs.declared.registers.Registers.{Registers}
+use Rattle.i386_effects.specs.Effect.{EffectOf}
+use Rattle.i386_execute.specs.Unit.{unit, address_behind}
 use Rattle.i386_effects.specs.declared.stepped.Stepped.{Stepped}
 use Rattle.i386_effects.specs.declared.stepped.Stepped.TheVariants.{Next as Performed, Trap, Interrupt, Privileged as PrivilegedUse, Outside as OutsideAccess, Port as OwnedPort}
 use Rattle.breach_monitor.specs.declared.guest.Breach.TheVariants.{Privileged, Int, Port, Outside}
@@ -28,3 +32,9 @@ answer_to eip next (Interrupt vector) = interrupted vector next
 answer_to eip next (PrivilegedUse kind size) = Breach (Privileged kind)
 answer_to eip next (OutsideAccess access at) = Breach (Outside access at)
 answer_to eip next (OwnedPort port) = Breach (Port port)
+
+-- the effect of a unit of the guest
+abbrev pub guest : {D : Type 0} → Ports D → Registers → State D → EffectOf GuestUnit D
+guest ports regs st =
+    let e = unit ports regs st in
+    record { answer = answer_to regs.eip (address_behind regs st.side) e.answer; registers = e.registers; bus = e.bus }

@@ -3,3 +3,4 @@ pub mod GuestUnit
 pub mod RealTimeUnit
 pub mod Laws
 pub mod SerialUnit
+pub mod UnitOverBus

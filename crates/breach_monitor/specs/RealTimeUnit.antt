@@ -20,15 +20,15 @@ abbrev pub Outcome : Type 0 → Type 0
 Outcome D = EffectOf RealTimeUnit D
 
 -- an answer that leaves everything as it is
-abbrev pub answered : {D : Type 0} → RealTimeUnit → Registers → State D → Outcome D
-answered answer regs st = record { answer = answer; registers = regs; bus = st }
+abbrev pub unchanged_with : {D : Type 0} → RealTimeUnit → Registers → State D → Outcome D
+unchanged_with answer regs st = record { answer = answer; registers = regs; bus = st }
 
 abbrev pub faulted : {D : Type 0} → FaultKind → Registers → State D → Outcome D
-faulted fault regs st = answered (Faults fault) regs st
+faulted fault regs st = unchanged_with (Faults fault) regs st
 
 -- a unit that was performed
-abbrev pub performed : {D : Type 0} → Effect D → Outcome D
-performed e = record { answer = Next; registers = e.registers; bus = e.bus }
+abbrev pub next_outcome : {D : Type 0} → Effect D → Outcome D
+next_outcome e = record { answer = Next; registers = e.registers; bus = e.bus }
 
 -- INT F8h is the gate and INT F9h the return; no other vector is there
 abbrev pub real_time_interrupt : ℕ → ℕ → RealTimeUnit
@@ -39,29 +39,29 @@ abbrev pub trapped : ℕ → FaultKind
 trapped vector = if vector == 0 then Divide else Opcode
 
 -- an instruction on the registers' own flag is performed, or its access lies outside
-abbrev pub used_by : {D : Type 0} → Registers → State D → Stepped → Effect D → Outcome D
-used_by regs st Performed e = performed e
-used_by regs st stepped e = faulted Memory regs st
+abbrev pub performed_or_outside : {D : Type 0} → Registers → State D → Stepped → Effect D → Outcome D
+performed_or_outside regs st Performed e = next_outcome e
+performed_or_outside regs st stepped e = faulted Memory regs st
 
 abbrev pub on_flag : {D : Type 0} → Ports D → PrivilegedUse → ℕ → Registers → State D → Outcome D
-on_flag ports kind n regs st = let e = flag_unit ports kind n regs st in used_by regs st e.answer e
+on_flag ports kind n regs st = let e = flag_unit ports kind n regs st in performed_or_outside regs st e.answer e
 
 -- IRET and HLT are nobody's
-abbrev pub used : {D : Type 0} → Ports D → PrivilegedUse → ℕ → Registers → State D → Outcome D
-used ports Cli n regs st = on_flag ports Cli n regs st
-used ports Sti n regs st = on_flag ports Sti n regs st
-used ports Pushf n regs st = on_flag ports Pushf n regs st
-used ports Popf n regs st = on_flag ports Popf n regs st
-used ports Iret n regs st = faulted Privileged regs st
-used ports Hlt n regs st = faulted Privileged regs st
+abbrev pub privileged_use : {D : Type 0} → Ports D → PrivilegedUse → ℕ → Registers → State D → Outcome D
+privileged_use ports Cli n regs st = on_flag ports Cli n regs st
+privileged_use ports Sti n regs st = on_flag ports Sti n regs st
+privileged_use ports Pushf n regs st = on_flag ports Pushf n regs st
+privileged_use ports Popf n regs st = on_flag ports Popf n regs st
+privileged_use ports Iret n regs st = faulted Privileged regs st
+privileged_use ports Hlt n regs st = faulted Privileged regs st
 
-abbrev pub came_to : {D : Type 0} → Ports D → Registers → State D → Stepped → Effect D → Outcome D
-came_to ports regs st Performed e = performed e
-came_to ports regs st (Trap vector) e = faulted (trapped vector) regs st
-came_to ports regs st (Interrupt vector) e = answered (real_time_interrupt vector (address_behind regs st.side)) regs st
-came_to ports regs st (Uses kind n) e = used ports kind n regs st
-came_to ports regs st (Outside access at) e = faulted Memory regs st
-came_to ports regs st (OwnedPort port) e = faulted Port regs st
+abbrev pub outcome_of_stepped : {D : Type 0} → Ports D → Registers → State D → Stepped → Effect D → Outcome D
+outcome_of_stepped ports regs st Performed e = next_outcome e
+outcome_of_stepped ports regs st (Trap vector) e = faulted (trapped vector) regs st
+outcome_of_stepped ports regs st (Interrupt vector) e = unchanged_with (real_time_interrupt vector (address_behind regs st.side)) regs st
+outcome_of_stepped ports regs st (Uses kind n) e = privileged_use ports kind n regs st
+outcome_of_stepped ports regs st (Outside access at) e = faulted Memory regs st
+outcome_of_stepped ports regs st (OwnedPort port) e = faulted Port regs st
 
 unfoldable pub real_time : {D : Type 0} → Ports D → Registers → State D → Outcome D
-real_time ports regs st = let e = unit ports regs st in came_to ports regs st e.answer e
+real_time ports regs st = let e = unit ports regs st in outcome_of_stepped ports regs st e.answer e

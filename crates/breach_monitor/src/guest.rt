@@ -1,11 +1,7 @@
 // The guest's unit.
-ghost use Rattle.std.specs.Prelude.{◌≡◌, ◌≢◌, ◌≤◌, ℕ, length};
-ghost use Rattle.i386_execute.specs.Unit.{unit, address_behind};
-ghost use Rattle.port_map.specs.declared.owner.Owner.TheVariants as owner;
-ghost use Rattle.pic_8259.specs.Controllers.{IsPair};
-ghost use Rattle.port_board.specs.Board.{ports_of, IsSampled};
-ghost use Rattle.breach_monitor.specs.Bus.{bus_state};
-ghost use Rattle.breach_monitor.specs.GuestUnit.{answer_to, interrupted, first_gate, last_gate};
+ghost use Rattle.std.specs.Prelude.{◌≡◌};
+ghost use Rattle.breach_monitor.specs.GuestUnit.{interrupted};
+ghost use Rattle.breach_monitor.specs.UnitOverBus.{IsGuestUnit, HasSoftGate, SameLoans, over, over_bus};
 
 use crate::GuestBus;
 use cpu_state::{Access, Privileged, Registers};
@@ -58,17 +54,9 @@ fn interrupted(vector: u8, next: u32) -> GuestUnit
 /// One unit of the guest: the instruction at EIP, or the first breach in the order of the fetch, privileged use, a vector
 /// that no guest may use, a port of another owner, and the first access outside.
 pub fn guest_unit(regs: &mut Registers, bus: &mut GuestBus<'_>) -> GuestUnit
-    ensures same_bytes { bus.new.bytes.ghost_name ≡ bus.old.bytes.ghost_name }
-    ensures same_board { bus.new.board.ghost_name ≡ bus.old.board.ghost_name }
-    ensures answer { let st = bus_state bus.old.first bus.old.bytes.now bus.old.board.now in result ≡ answer_to regs.old.eip (address_behind regs.old st.side) (unit (ports_of owner.Guest) regs.old st).answer }
-    ensures registers { regs.new ≡ (unit (ports_of owner.Guest) regs.old (bus_state bus.old.first bus.old.bytes.now bus.old.board.now)).registers }
-    ensures state { bus_state bus.new.first bus.new.bytes.now bus.new.board.now ≡ (unit (ports_of owner.Guest) regs.old (bus_state bus.old.first bus.old.bytes.now bus.old.board.now)).bus }
-    ensures unchanged { result ≢ GuestUnit.Next → (regs.new ≡ regs.old) × (bus.new.bytes.now ≡ bus.old.bytes.now) × (bus.new.board.now ≡ bus.old.board.now) }
-    ensures place { bus.new.first ≡ bus.old.first }
-    ensures size { length bus.new.bytes.now ≡ length bus.old.bytes.now }
-    ensures sampled { IsSampled bus.old.board.now → IsSampled bus.new.board.now }
-    ensures pair { IsPair bus.old.board.now.pair → IsPair bus.new.board.now.pair }
-    ensures gate { (number next : ℕ) → result ≡ GuestUnit.Gate number next → (first_gate ≤ number) × (number ≤ last_gate) }
+    ensures lent { SameLoans bus.old bus.new }
+    ensures unit { IsGuestUnit result (over_bus regs.old bus.old) (over_bus regs.new bus.new) }
+    ensures gate { HasSoftGate result }
 {
     let eip = regs.eip;
     match step(regs, bus) {
@@ -83,14 +71,8 @@ pub fn guest_unit(regs: &mut Registers, bus: &mut GuestBus<'_>) -> GuestUnit
 
 /// One unit of the guest over a board and bytes that are lent, of which the first stands at address 0.
 pub fn guest_unit_on(regs: &mut Registers, memory: &mut [u8], board: &mut Board) -> GuestUnit
-    ensures answer { let st = bus_state 0 memory.old board.old in result ≡ answer_to regs.old.eip (address_behind regs.old st.side) (unit (ports_of owner.Guest) regs.old st).answer }
-    ensures registers { regs.new ≡ (unit (ports_of owner.Guest) regs.old (bus_state 0 memory.old board.old)).registers }
-    ensures state { bus_state 0 memory.new board.new ≡ (unit (ports_of owner.Guest) regs.old (bus_state 0 memory.old board.old)).bus }
-    ensures unchanged { result ≢ GuestUnit.Next → (regs.new ≡ regs.old) × (memory.new ≡ memory.old) × (board.new ≡ board.old) }
-    ensures size { length memory.new ≡ length memory.old }
-    ensures sampled { IsSampled board.old → IsSampled board.new }
-    ensures pair { IsPair board.old.pair → IsPair board.new.pair }
-    ensures gate { (number next : ℕ) → result ≡ GuestUnit.Gate number next → (first_gate ≤ number) × (number ≤ last_gate) }
+    ensures unit { IsGuestUnit result (over regs.old 0 memory.old board.old) (over regs.new 0 memory.new board.new) }
+    ensures gate { HasSoftGate result }
 {
     let mut bus = GuestBus::new(0, memory, board);
     guest_unit(regs, &mut bus)

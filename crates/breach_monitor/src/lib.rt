@@ -8,7 +8,7 @@ mod guest;
 mod laws;
 mod real_time;
 
-pub use buses::{GuestBus, RealTimeBus};
+pub use buses::{GuestBus, GuestPorts, OwnerBus, PortOwner, RealTimeBus, RealTimePorts};
 pub use guest::{Breach, GuestUnit, guest_unit, guest_unit_on};
 pub use laws::{
     access_leaves_others, real_time_keeps_others, real_time_of_serial, unit_keeps_others,

@@ -1,11 +1,8 @@
 // The unit of a real-time activity.
-ghost use Rattle.std.specs.Prelude.{◌≡◌, ◌≢◌, length, true};
+ghost use Rattle.std.specs.Prelude.{◌≡◌, true};
 ghost use Rattle.i386_execute.specs.OwnFlag.{is_on_flag};
-ghost use Rattle.port_map.specs.declared.owner.Owner.TheVariants as owner;
-ghost use Rattle.pic_8259.specs.Controllers.{IsPair};
-ghost use Rattle.port_board.specs.Board.{ports_of, IsSampled};
-ghost use Rattle.breach_monitor.specs.Bus.{bus_state};
-ghost use Rattle.breach_monitor.specs.RealTimeUnit.{on_flag, used, real_time, real_time_interrupt, trapped};
+ghost use Rattle.breach_monitor.specs.RealTimeUnit.{real_time_interrupt, trapped};
+ghost use Rattle.breach_monitor.specs.UnitOverBus.{IsRealTimeUnit, IsFlagUse, IsPrivilegedUse, SameLoans, over, over_bus};
 
 use crate::RealTimeBus;
 use cpu_state::{Privileged, Registers};
@@ -58,14 +55,8 @@ fn on_flag(
     bus: &mut RealTimeBus<'_>,
 ) -> RealTimeUnit
     requires { is_on_flag kind ≡ true }
-    ensures same_bytes { bus.new.bytes.ghost_name ≡ bus.old.bytes.ghost_name }
-    ensures same_board { bus.new.board.ghost_name ≡ bus.old.board.ghost_name }
-    ensures outcome { record { answer = result; registers = regs.new; bus = bus_state bus.new.first bus.new.bytes.now bus.new.board.now } ≡ on_flag (ports_of owner.RealTime) kind count regs.old (bus_state bus.old.first bus.old.bytes.now bus.old.board.now) }
-    ensures unchanged { result ≢ RealTimeUnit.Next → (regs.new ≡ regs.old) × (bus.new.bytes.now ≡ bus.old.bytes.now) × (bus.new.board.now ≡ bus.old.board.now) }
-    ensures place { bus.new.first ≡ bus.old.first }
-    ensures size { length bus.new.bytes.now ≡ length bus.old.bytes.now }
-    ensures sampled { IsSampled bus.old.board.now → IsSampled bus.new.board.now }
-    ensures pair { IsPair bus.old.board.now.pair → IsPair bus.new.board.now.pair }
+    ensures lent { SameLoans bus.old bus.new }
+    ensures unit { IsFlagUse kind count result (over_bus regs.old bus.old) (over_bus regs.new bus.new) }
 {
     match privileged(kind, count, regs, bus) {
         Stepped::Next => RealTimeUnit::Next,
@@ -74,20 +65,14 @@ fn on_flag(
 }
 
 // What an instruction of so many bytes on the hard interrupt flag, or HLT, comes to.
-fn used(
+fn privileged_use(
     kind: Privileged,
     count: u8,
     regs: &mut Registers,
     bus: &mut RealTimeBus<'_>,
 ) -> RealTimeUnit
-    ensures same_bytes { bus.new.bytes.ghost_name ≡ bus.old.bytes.ghost_name }
-    ensures same_board { bus.new.board.ghost_name ≡ bus.old.board.ghost_name }
-    ensures outcome { record { answer = result; registers = regs.new; bus = bus_state bus.new.first bus.new.bytes.now bus.new.board.now } ≡ used (ports_of owner.RealTime) kind count regs.old (bus_state bus.old.first bus.old.bytes.now bus.old.board.now) }
-    ensures unchanged { result ≢ RealTimeUnit.Next → (regs.new ≡ regs.old) × (bus.new.bytes.now ≡ bus.old.bytes.now) × (bus.new.board.now ≡ bus.old.board.now) }
-    ensures place { bus.new.first ≡ bus.old.first }
-    ensures size { length bus.new.bytes.now ≡ length bus.old.bytes.now }
-    ensures sampled { IsSampled bus.old.board.now → IsSampled bus.new.board.now }
-    ensures pair { IsPair bus.old.board.now.pair → IsPair bus.new.board.now.pair }
+    ensures lent { SameLoans bus.old bus.new }
+    ensures unit { IsPrivilegedUse kind count result (over_bus regs.old bus.old) (over_bus regs.new bus.new) }
 {
     match kind {
         Privileged::Cli => on_flag(kind, count, regs, bus),
@@ -103,22 +88,14 @@ fn used(
 /// vector that is neither the gate's nor the return's, a port of another owner, and the first access outside.
 #[tactic(auto, unfolding(crate::specs::RealTimeUnit::real_time))]
 pub fn real_time_unit(regs: &mut Registers, bus: &mut RealTimeBus<'_>) -> RealTimeUnit
-    ensures same_bytes { bus.new.bytes.ghost_name ≡ bus.old.bytes.ghost_name }
-    ensures same_board { bus.new.board.ghost_name ≡ bus.old.board.ghost_name }
-    ensures answer { result ≡ (real_time (ports_of owner.RealTime) regs.old (bus_state bus.old.first bus.old.bytes.now bus.old.board.now)).answer }
-    ensures registers { regs.new ≡ (real_time (ports_of owner.RealTime) regs.old (bus_state bus.old.first bus.old.bytes.now bus.old.board.now)).registers }
-    ensures state { bus_state bus.new.first bus.new.bytes.now bus.new.board.now ≡ (real_time (ports_of owner.RealTime) regs.old (bus_state bus.old.first bus.old.bytes.now bus.old.board.now)).bus }
-    ensures unchanged { result ≢ RealTimeUnit.Next → (regs.new ≡ regs.old) × (bus.new.bytes.now ≡ bus.old.bytes.now) × (bus.new.board.now ≡ bus.old.board.now) }
-    ensures place { bus.new.first ≡ bus.old.first }
-    ensures size { length bus.new.bytes.now ≡ length bus.old.bytes.now }
-    ensures sampled { IsSampled bus.old.board.now → IsSampled bus.new.board.now }
-    ensures pair { IsPair bus.old.board.now.pair → IsPair bus.new.board.now.pair }
+    ensures lent { SameLoans bus.old bus.new }
+    ensures unit { IsRealTimeUnit result (over_bus regs.old bus.old) (over_bus regs.new bus.new) }
 {
     match step(regs, bus) {
         Stepped::Next => RealTimeUnit::Next,
         Stepped::Trap(vector) => RealTimeUnit::Fault(trapped(vector)),
         Stepped::Interrupt(vector) => interrupted(vector, after(regs, bus)),
-        Stepped::Privileged(kind, count) => used(kind, count, regs, bus),
+        Stepped::Privileged(kind, count) => privileged_use(kind, count, regs, bus),
         Stepped::Outside(_, _) => RealTimeUnit::Fault(FaultKind::Memory),
         Stepped::Port(_) => RealTimeUnit::Fault(FaultKind::Port),
     }
@@ -131,13 +108,7 @@ pub fn real_time_unit_on(
     memory: &mut [u8],
     board: &mut Board,
 ) -> RealTimeUnit
-    ensures answer { result ≡ (real_time (ports_of owner.RealTime) regs.old (bus_state first memory.old board.old)).answer }
-    ensures registers { regs.new ≡ (real_time (ports_of owner.RealTime) regs.old (bus_state first memory.old board.old)).registers }
-    ensures state { bus_state first memory.new board.new ≡ (real_time (ports_of owner.RealTime) regs.old (bus_state first memory.old board.old)).bus }
-    ensures unchanged { result ≢ RealTimeUnit.Next → (regs.new ≡ regs.old) × (memory.new ≡ memory.old) × (board.new ≡ board.old) }
-    ensures size { length memory.new ≡ length memory.old }
-    ensures sampled { IsSampled board.old → IsSampled board.new }
-    ensures pair { IsPair board.old.pair → IsPair board.new.pair }
+    ensures unit { IsRealTimeUnit result (over regs.old first memory.old board.old) (over regs.new first memory.new board.new) }
 {
     let mut bus = RealTimeBus::new(first, memory, board);
     real_time_unit(regs, &mut bus)

@@ -1,9 +1,16 @@
+use Rattle.std.proofs.Common.{rules}
 use Rattle.port_map.specs.declared.owner.Owner.TheVariants.{RealTime}
 use Rattle.breach_monitor.proofs.Kept.{flag_left_pair, flag_left_sampled}
 use Rattle.breach_monitor.proofs.real_time.on_flag.Goals as goal
 
-pub returns-in-Next-clause-sampled : goal.returns-in-Next-clause-sampled
-returns-in-Next-clause-sampled c = flag_left_sampled RealTime _ _ _ _ _ c.privileged.ensures.effect
-
-pub returns-in-Next-clause-pair : goal.returns-in-Next-clause-pair
-returns-in-Next-clause-pair c = flag_left_pair RealTime _ _ _ _ _ c.privileged.ensures.effect
+pub returns-in-Next-clause-unit : goal.returns-in-Next-clause-unit
+returns-in-Next-clause-unit c = record {
+  answer = search rules;
+  registers = search rules;
+  state = search rules;
+  unchanged = search rules;
+  place = search rules;
+  size = search rules;
+  sampled = flag_left_sampled RealTime _ _ _ _ _ c.privileged.ensures.effect;
+  pair = flag_left_pair RealTime _ _ _ _ _ c.privileged.ensures.effect;
+}
