@@ -11,14 +11,11 @@ use crate::service::take_first;
 use arrayvec::ArrayVec;
 use line_sets::{has_line16, with_line16};
 use pic_8259::Pair;
+use rt_constants::lines::{COM2_LINE, TIMER_LINE};
 use rt_irqs::Irqs;
 
 /// How many lines the pair has.
 pub const LINES: usize = 16;
-/// The timer's line.
-const TIMER: u8 = 0;
-/// The line of the real-time side's serial port, which is dropped where no module holds it.
-const REAL_TIME_SERIAL: u8 = 3;
 
 /// What a drain took: the lines in their order, and as sets.
 #[derive(Debug, Drop)]
@@ -57,14 +54,14 @@ fn give(line: u8, irqs: &mut Irqs, guest: u16) -> u16
     ensures kept { IsLines irqs.new }
 {
     let held = irqs.held(line);
-    if line == TIMER {
+    if line == TIMER_LINE {
         return guest;
     }
     if held {
         irqs.mark(line);
         return guest;
     }
-    if line == REAL_TIME_SERIAL {
+    if line == COM2_LINE {
         guest
     } else {
         with_line16(guest, line)
@@ -108,6 +105,6 @@ pub fn drain(pair: &mut Pair, irqs: &mut Irqs) -> Drained
     while let Some(line) = take_first(pair) {
         serve(line, irqs, &mut drained);
     }
-    drained.timer = has_line16(drained.acknowledged, TIMER);
+    drained.timer = has_line16(drained.acknowledged, TIMER_LINE);
     drained
 }

@@ -2,14 +2,13 @@
 -- threads (pthread_create, pthread_delete_np, pthread_suspend_np, pthread_wakeup_np, pthread_make_periodic_np, pthread_wait_np,
 -- gethrtime), on FIFOs (rtf_create and its kin) and on interrupts (rtl_request_irq, rtl_global_pend_irq and their kin), and POSIX's on
 -- a thread's priority. Their numbers, registers and limits are this project's own.
-use Rattle.std.specs.Prelude.{ℕ, ◌+◌, ◌-◌, nat_lt, nat_le, Bool, true, ◌&&◌, ◌||◌, List, slice_set, if◌then◌else◌, Option, Some, None, is_some, ℤ, pos}
+use Rattle.std.specs.Prelude.{ℕ, ◌+◌, ◌-◌, nat_lt, nat_le, Bool, true, ◌&&◌, List, slice_set, if◌then◌else◌, Option, Some, None, is_some, ℤ, pos}
 use Rattle.memory_model.specs.Side.{Side, inside, bytes_at, stored, word_stored, first_outside}
 use Rattle.cpu_state.specs.Registers.{starting}
 use Rattle.rt_constants.specs.Errors.{failed}
 use Rattle.rt_constants.specs.declared.errors.TheConstants.{EAGAIN, EINVAL}
 use Rattle.rt_constants.specs.declared.limits.TheConstants.{BYTES_LIMIT}
-use Rattle.line_sets.specs.LineSet.{has}
-use Rattle.rt_irqs.specs.Irqs.{Lines, request_result, requested, free_result, freed, free_soft_line, line_result, line_taken, free_soft_result, soft_freed}
+use Rattle.rt_irqs.specs.Irqs.{Lines, request_result, requested, free_result, freed, free_soft_line, line_result, line_taken, free_soft_result, soft_freed, is_pendable}
 use Rattle.line_kinds.specs.declared.kinds.Who.{Who}
 use Rattle.line_kinds.specs.declared.kinds.Who.TheVariants.{Guest, Thread as ThreadOn, Init, Irq, Fifo as FifoOn}
 use Rattle.rt_threads.specs.declared.threads.Thread.{Thread}
@@ -135,7 +134,7 @@ on_irqs result irqs p = answers result (record p { irqs = irqs })
 
 -- 22: a hard line, or a soft one that is taken, is marked for the guest. The mark is the guest's, so nothing changes here
 abbrev pub pend_irq : Request → GateParts → Answered
-pend_irq q p = if nat_le q.ebx 15 || has p.irqs.soft q.ebx then succeeds 0 p else fails EINVAL p
+pend_irq q p = if is_pendable p.irqs q.ebx then succeeds 0 p else fails EINVAL p
 
 -- 24: the ECX bytes at EBX are printed
 abbrev pub print : Request → GateParts → Answered

@@ -111,8 +111,8 @@ rows =
     ∷ row (Init 0) 18 0 0 0 invalid ∷ row (Init 0) 18 2 0 0 invalid ∷ row (Init 0) 18 4 0 0 invalid ∷ row (Init 0) 18 16 0 0 invalid ∷ row (Init 0) 18 7 0 0 busy ∷ row (Init 0) 18 15 0 0 (yields 0)
     ∷ row (Init 0) 19 9 0 0 invalid ∷ row (Init 0) 19 7 0 0 (yields 0)
     ∷ row (Init 0) 20 0 0 0 (yields 16)
-    ∷ row (Init 0) 21 16 0 0 invalid
-    ∷ row (Init 0) 22 16 0 0 invalid ∷ row (Init 0) 22 15 0 0 (yields 0)
+    ∷ row (Init 0) 21 16 0 0 invalid ∷ row (Init 0) 21 4294967295 0 0 invalid
+    ∷ row (Init 0) 22 16 0 0 invalid ∷ row (Init 0) 22 4294967295 0 0 invalid ∷ row (Init 0) 22 15 0 0 (yields 0)
     ∷ row (FifoOn 2) 23 1 0 0 invalid ∷ row (ThreadOn 4) 23 0 0 0 invalid ∷ row (ThreadOn 4) 23 1000000001 0 0 invalid ∷ row (ThreadOn 4) 23 1000000000 0 0 (yields 0)
     ∷ row (Init 0) 24 0 257 0 invalid ∷ row (Init 0) 24 0x110 1 0 None ∷ row (Init 0) 24 0x110 0 0 (yields 0)
     ∷ row (Init 0) 0 0 0 0 invalid ∷ row (Init 0) 25 0 0 0 invalid

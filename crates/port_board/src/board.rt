@@ -20,7 +20,8 @@ use device_script::Event;
 use line_sets::with_line16;
 use pic_8259::Pair;
 use pit_8254::{CONTROL_WORD, COUNTER_0, Pit};
-use port_map::{COM1_LINE, COM2_LINE, Owner, read_serial, write_serial};
+use port_map::{Owner, read_serial, write_serial};
+use rt_constants::lines::{COM1_LINE, COM2_LINE, TIMER_LINE};
 use uart_16550::Uart;
 
 /// An access touches a port that is another owner's.
@@ -34,9 +35,6 @@ pub struct Edges {
     pub com1: Option<u8>,
     pub com2: Option<u8>,
 }
-
-/// The interrupt line of the timer's counter 0 (IBM PC/AT Technical Reference, "System Interrupts").
-const TIMER_LINE: u8 = 0;
 
 /// The control word of the one-shot: counter 0, both bytes of the count, low byte first, mode 0, binary.
 const ONE_SHOT: u8 = 0x30;

@@ -1,5 +1,6 @@
 -- The owners of ports: COM1 is the guest's and COM2 the real-time side's, the interrupt controllers and the timer are the executive's, and every other port is nobody's.
 use Rattle.std.specs.Prelude.{ℕ, ◌+◌, Bool, not, ◌&&◌, ◌||◌, nat_lt, nat_le}
+use Rattle.rt_constants.specs.declared.lines.TheConstants.{COM1_LINE, COM2_LINE}
 use Rattle.pic_8259.specs.Controllers.{is_port as is_pic_port}
 use Rattle.pit_8254.specs.Timer.{is_port as is_pit_port}
 use Rattle.port_map.specs.declared.owner.Owner.{Owner}
@@ -24,5 +25,5 @@ is_mine owner port = not (is_pic_port port || (is_pit_port port || is_serial (ot
 
 -- the interrupt line of an owner's serial port
 abbrev pub line_of_owner : Owner → ℕ
-line_of_owner Guest = 4
-line_of_owner RealTime = 3
+line_of_owner Guest = COM1_LINE
+line_of_owner RealTime = COM2_LINE

@@ -6,5 +6,5 @@
 mod owner;
 mod serial;
 
-pub use owner::{COM1_LINE, COM2_LINE, Owner};
+pub use owner::Owner;
 pub use serial::{read_serial, write_serial};

@@ -9,6 +9,7 @@ ghost use Rattle.port_map.specs.Serial.{serial_ports};
 use cpu_state::Width;
 use pic_8259::{MASTER_COMMAND, MASTER_DATA, SLAVE_COMMAND, SLAVE_DATA};
 use pit_8254::{CONTROL_WORD, COUNTER_0};
+use rt_constants::lines::{COM1_LINE, COM2_LINE};
 
 /// Who accesses a port.
 #[derive(Clone, Copy, Debug, PartialEq, Eq)]
@@ -25,10 +26,6 @@ const COM1_BASE: u16 = 0x3F8;
 const COM2_BASE: u16 = 0x2F8;
 /// How many ports a serial port has.
 const SERIAL_PORTS: u16 = 8;
-/// COM1's interrupt line (IBM PC/AT Technical Reference, "System Interrupts").
-pub const COM1_LINE: u8 = 4;
-/// COM2's interrupt line (IBM PC/AT Technical Reference, "System Interrupts").
-pub const COM2_LINE: u8 = 3;
 
 impl Owner {
     /// The first port of the owner's serial port.

@@ -7,15 +7,9 @@ use line_sets::{
     has_line16, has_line32, lowest16, lowest32, minus32, with_line16, with_line32, without_line16,
     without_line32,
 };
+use rt_constants::lines::{ALL_LINES, CASCADE_LINE, COM1_LINE, HARD_LINES, TIMER_LINE};
+use rt_constants::{failed, EBUSY, EINVAL};
 use std::marker::Model;
-
-/// Linux's error number for a line that is held already, or where no soft line is free.
-pub const EBUSY: i32 = 16;
-/// Linux's error number for a line that can't be held, isn't held or isn't taken.
-pub const EINVAL: i32 = 22;
-
-/// How many hard lines there are.
-const HARD_LINES: u32 = 16;
 
 /// The soft lines, 16 to 31.
 const SOFT_LINES: u32 = 0xFFFF_0000;
@@ -52,7 +46,10 @@ impl Model for Irqs {
 fn is_holdable(line: u32) -> bool
     ensures { result ≡ is_holdable line }
 {
-    line == 1 || line == 3 || (5 <= line && line <= 15)
+    let taken = line == u32::from(TIMER_LINE)
+        || line == u32::from(CASCADE_LINE)
+        || line == u32::from(COM1_LINE);
+    line < u32::from(HARD_LINES) && !taken
 }
 
 impl Irqs {
@@ -73,7 +70,7 @@ impl Irqs {
         ensures entry { result ≡ entry_of self.now line }
         ensures lines { IsLines self.now }
     {
-        if line < HARD_LINES {
+        if line < u32::from(HARD_LINES) {
             self.entries[line as usize]
         } else {
             None
@@ -107,10 +104,10 @@ impl Irqs {
     {
         let held = self.is_held(line);
         if !is_holdable(line) {
-            return -EINVAL;
+            return failed(EINVAL);
         }
         if held {
-            return -EBUSY;
+            return failed(EBUSY);
         }
         self.entries[line as usize] = Some(entry);
         0
@@ -128,7 +125,7 @@ impl Irqs {
             self.marked = without_line16(self.marked, line as u8);
             0
         } else {
-            -EINVAL
+            failed(EINVAL)
         }
     }
 
@@ -187,7 +184,7 @@ impl Irqs {
                 self.soft = with_line32(self.soft, line);
                 line as i32
             }
-            None => -EBUSY,
+            None => failed(EBUSY),
         }
     }
 
@@ -198,7 +195,7 @@ impl Irqs {
         ensures kept { IsLines self.new }
     {
         if !self.has_soft(line) {
-            return -EINVAL;
+            return failed(EINVAL);
         }
         self.soft = without_line32(self.soft, line as u8);
         0
@@ -209,7 +206,7 @@ impl Irqs {
         ensures pendable { result ≡ is_pendable self.now line }
         ensures below { IsTrue result → line < 32 }
     {
-        line < HARD_LINES || self.has_soft(line)
+        line < u32::from(HARD_LINES) || self.has_soft(line)
     }
 
     /// Whether the soft line is taken; no line from 32 on is.
@@ -219,7 +216,7 @@ impl Irqs {
         ensures below { IsTrue result → line < 32 }
         ensures lines { IsLines self.now }
     {
-        if line < 32 {
+        if line < u32::from(ALL_LINES) {
             has_line32(self.soft, line as u8)
         } else {
             false

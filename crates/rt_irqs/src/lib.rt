@@ -7,4 +7,4 @@
 
 mod irqs;
 
-pub use irqs::{EBUSY, EINVAL, Irqs};
+pub use irqs::Irqs;

@@ -9,7 +9,7 @@ use Rattle.cpu_state.specs.Registers.{with_eax}
 use Rattle.cpu_state.specs.declared.registers.Registers.{Registers}
 use Rattle.line_sets.specs.LineSet.{has, with_line, without_line}
 use Rattle.line_sets.proofs.LineSetLemmas.{has-zero, has-with_same, has-with_other, has-without_same, has-without_other}
-use Rattle.rt_irqs.specs.Irqs.{Lines, is_held, is_holdable, failed, request_result, requested, free_result, freed, free_soft_line, line_taken, soft_freed}
+use Rattle.rt_irqs.specs.Irqs.{Lines, is_held, is_holdable, request_result, requested, free_result, freed, free_soft_line, line_taken, soft_freed, has_soft}
 use Rattle.port_map.specs.Serial.{Serial}
 use Rattle.device_script.specs.declared.event.Event.{Event}
 use Rattle.breach_monitor.specs.RealTimeUnit.{Outcome}
@@ -29,7 +29,8 @@ use Rattle.run_lines.specs.Says.{after_line_gate, after_line_result, after_owner
 use Rattle.run_lines.specs.Ticks.{at_tick}
 use Rattle.rt_threads.specs.declared.threads.State.TheVariants.{Ready, Waiting}
 use Rattle.rt_threads.specs.Threads.{with_state, with_period, is_plan, is_priority, with_next, with_priority, thread_at, with_thread, priority_of, free_number}
-use Rattle.rt_constants.specs.declared.errors.TheConstants.{EINVAL}
+use Rattle.rt_constants.specs.declared.errors.TheConstants.{EBUSY, EINVAL}
+use Rattle.rt_constants.specs.Errors.{failed}
 use Rattle.module_gates.specs.Gates.{Request, GateParts, Answered, fails, succeeds, created, left, woken, deleted, suspended, gate_row, Range, range_of, gate_in}
 use Rattle.priority_schedule.specs.Pick.{pick}
 use Rattle.rt_constants.specs.declared.limits.TheConstants.{THREADS_LIMIT}
@@ -113,7 +114,7 @@ soft_held irqs None = refl
 soft_held irqs (Some line) = refl
 
 given_back_held : (irqs : Lines) (line : ℕ) → (soft_freed irqs line).entries ≡ irqs.entries
-given_back_held irqs line = elim (has irqs.soft line) as (λ b. (if b then record irqs { soft = without_line irqs.soft line } else irqs).entries ≡ irqs.entries) [ true ↦ refl | false ↦ refl ]
+given_back_held irqs line = elim (has_soft irqs line) as (λ b. (if b then record irqs { soft = without_line irqs.soft line } else irqs).entries ≡ irqs.entries) [ true ↦ refl | false ↦ refl ]
 
 row_held : (t : ℕ) (who : Who) (q : Request) (p : GateParts) (g : GateName) → Leaves g → (gate_row t who q p g).after.irqs.entries ≡ p.irqs.entries
 row_held t who q p Gethrtime l = refl
@@ -183,8 +184,8 @@ request_holds : (q : Request) (irqs : Lines) (lines : ℕ) → Holds irqs.entrie
     → Holds (requested irqs q.ebx q.ecx).entries (after_line_result RequestIrq q.ebx lines (request_result irqs q.ebx))
 request_holds q irqs lines h =
     let done : Lines = record irqs { entries = set irqs.entries q.ebx (Some q.ecx) } in
-    elim (is_holdable q.ebx) as (λ b. is_holdable q.ebx ≡ b → Holds (if b && not (is_held irqs q.ebx) then done else irqs).entries (after_line_result RequestIrq q.ebx lines (if b then (if is_held irqs q.ebx then failed 16 else pos 0) else failed 22))) [
-      | true ↦ λ small. elim (is_held irqs q.ebx) as (λ b. Holds (if not b then done else irqs).entries (after_line_result RequestIrq q.ebx lines (if b then failed 16 else pos 0))) [
+    elim (is_holdable q.ebx) as (λ b. is_holdable q.ebx ≡ b → Holds (if b && not (is_held irqs q.ebx) then done else irqs).entries (after_line_result RequestIrq q.ebx lines (if b then (if is_held irqs q.ebx then failed EBUSY else pos 0) else failed EINVAL))) [
+      | true ↦ λ small. elim (is_held irqs q.ebx) as (λ b. Holds (if not b then done else irqs).entries (after_line_result RequestIrq q.ebx lines (if b then failed EBUSY else pos 0))) [
         | true ↦ h
         | false ↦ holds_with irqs.entries lines q.ebx q.ecx (small_line q.ebx small) h
       ]
@@ -193,7 +194,7 @@ request_holds q irqs lines h =
 
 free_holds : (irqs : Lines) (lines line : ℕ) → Holds irqs.entries lines → Holds (freed irqs line).entries (after_line_result FreeIrq line lines (free_result irqs line))
 free_holds irqs lines line h =
-    elim (is_held irqs line) as (λ b. Holds (if b then record irqs { entries = set irqs.entries line None; marked = without_line irqs.marked line } else irqs).entries (after_line_result FreeIrq line lines (if b then pos 0 else failed 22))) [
+    elim (is_held irqs line) as (λ b. Holds (if b then record irqs { entries = set irqs.entries line None; marked = without_line irqs.marked line } else irqs).entries (after_line_result FreeIrq line lines (if b then pos 0 else failed EINVAL))) [
       | true ↦ holds_without irqs.entries lines line h
       | false ↦ h
     ]
