@@ -1,5 +1,5 @@
 -- The place of one FIFO. Its ring stands there always, also while there is no FIFO.
-use Rattle.std.specs.Prelude.{◌≡◌, ℕ, ◌+◌, ◌≤◌, nat_lt, Bool, true, List, [], ◌++◌, length, take, drop, if◌then◌else◌, Option, Some, None, is_some, ℤ, pos, negsuc}
+use Rattle.std.specs.Prelude.{◌≡◌, ℕ, ◌+◌, ◌≤◌, nat_lt, true, List, [], ◌++◌, length, take, drop, if◌then◌else◌, Option, Some, None, is_some, ℤ, pos, negsuc}
 use Rattle.rt_constants.specs.Errors.{failed}
 use Rattle.rt_constants.specs.declared.errors.TheConstants.{EBUSY, ENODEV, ENOSPC}
 use Rattle.rt_constants.specs.declared.limits.TheConstants.{FIFO_LIMIT}

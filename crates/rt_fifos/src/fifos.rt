@@ -6,8 +6,8 @@ ghost use Rattle.rt_fifos.specs.Room.{in_front, HasHandler, IsAtMost};
 
 use crate::room::Room;
 use outside_io::NoMemory;
-use rt_constants::limits::{FIFOS_LIMIT, FIFO_LIMIT};
-use rt_constants::{failed, EINVAL, ENODEV};
+use rt_constants::limits::{FIFO_LIMIT, FIFOS_LIMIT};
+use rt_constants::{EINVAL, ENODEV, failed};
 use std::alloc::{AllocError, Global};
 use std::marker::Model;
 

@@ -6,7 +6,7 @@ ghost use Rattle.rt_fifos.specs.Room.{count_result, create_result, created_in, g
 
 use circular_buffer::HeapCircularBuffer;
 use rt_constants::limits::FIFO_LIMIT;
-use rt_constants::{failed, EBUSY, ENODEV, ENOSPC};
+use rt_constants::{EBUSY, ENODEV, ENOSPC, failed};
 use std::alloc::{AllocError, Global};
 use std::marker::Model;
 

@@ -1,5 +1,5 @@
 -- The numbers in a ready list stay apart and below 64, so that there are at most 64.
-use Rattle.std.proofs.Common.{◌≡◌, ℕ, ◌+◌, ◌<◌, ◌≤◌, Bool, true, false, not, ◌||◌, ◌==◌, refl, sym, ap, ◌∙◌, arith, List, [], ◌∷◌, ◌++◌, length, map, filter, find, cond, eqb, subst, Option, Some, None, IfSome}
+use Rattle.std.proofs.Common.{◌≡◌, ℕ, ◌<◌, ◌≤◌, Bool, true, false, not, ◌||◌, ◌==◌, refl, sym, ap, ◌∙◌, arith, List, [], ◌∷◌, ◌++◌, length, map, filter, find, cond, eqb, subst, Option, Some, IfSome}
 use Rattle.std.proofs.lemmas.Bool.{eqb-true, eqb-false, ne_eqb}
 use Rattle.std.proofs.lemmas.List.{length-map, length_push}
 use Rattle.std.proofs.lemmas.Map.Steps.{length-le_from_distinct_below}
@@ -35,9 +35,9 @@ in_filtered test i (q ∷ ps) h =
 
 same_id : (i priority : ℕ) (p : Place) → (rated i priority p).id ≡ p.id
 same_id i priority p = elim (p.id == i) as (λ b. (cond b (record p { priority = priority }) p).id ≡ p.id) [
-    | true ↦ refl
-    | false ↦ refl
-  ]
+  | true ↦ refl
+  | false ↦ refl
+]
 
 in_rated : (j i priority : ℕ) (ps : List Place) → is_in j (map (rated i priority) ps) ≡ is_in j ps
 in_rated j i priority [] = refl
@@ -52,9 +52,9 @@ members_push (q ∷ ps) p m below apart =
 pub members_filter : (test : Place → Bool) (ps : List Place) → AreMembers ps → AreMembers (filter test ps)
 members_filter test [] m = tt
 members_filter test (q ∷ ps) m = elim (test q) as (λ b. AreMembers (cond b (q ∷ filter test ps) (filter test ps))) [
-    | true ↦ (m.0, in_filtered test q.id ps m.1, members_filter test ps m.2)
-    | false ↦ members_filter test ps m.2
-  ]
+  | true ↦ (m.0, in_filtered test q.id ps m.1, members_filter test ps m.2)
+  | false ↦ members_filter test ps m.2
+]
 
 pub members_rated : (i priority : ℕ) (ps : List Place) → AreMembers ps → AreMembers (map (rated i priority) ps)
 members_rated i priority [] m = tt
@@ -76,9 +76,9 @@ distinct (q ∷ ps) m = (apart_from q.id ps m.1, distinct ps m.2)
 below : (ps : List Place) → AreMembers ps → (i : ℕ) → list_any (eqb i) (map id_of ps) ≡ true → i < 64
 below [] m i h = absurd cc
 below (q ∷ ps) m i h = elim (eqb i q.id) as (λ b. eqb i q.id ≡ b → (b || list_any (eqb i) (map id_of ps)) ≡ true → i < 64) [
-    | true ↦ λ e f. subst (λ n. n < 64) (sym (eqb-true i q.id e)) m.0
-    | false ↦ λ e f. below ps m.2 i f
-  ] refl h
+  | true ↦ λ e f. subst (λ n. n < 64) (sym (eqb-true i q.id e)) m.0
+  | false ↦ λ e f. below ps m.2 i f
+] refl h
 
 few : (ps : List Place) → AreMembers ps → length ps ≤ 64
 few ps m = subst (λ n. n ≤ 64) (length-map ps id_of) (length-le_from_distinct_below (map id_of ps) 64 (distinct ps m) (below ps m))
@@ -91,9 +91,9 @@ has_room ps p m small apart = let n = few (ps ++ p ∷ []) (members_push ps p m 
 pub found_below : (test : Place → Bool) (ps : List Place) → AreMembers ps → IfSome (find test ps) (λ p. p.id < 64)
 found_below test [] m = tt
 found_below test (q ∷ ps) m = elim (test q) as (λ b. IfSome (cond b (Some q) (find test ps)) (λ p. p.id < 64)) [
-    | true ↦ m.0
-    | false ↦ found_below test ps m.2
-  ]
+  | true ↦ m.0
+  | false ↦ found_below test ps m.2
+]
 
 pub first_below : (version : ℕ) (ps : List Place) (o : Option Place) → AreMembers ps → o ≡ first_place version ps → IfSome o (λ p. p.id < 64)
 unfolding first_place

@@ -1,5 +1,5 @@
 -- Changing the places one after the other changes all.
-use Rattle.std.proofs.Common.{◌≡◌, ℕ, ◌+◌, ◌<◌, ◌≤◌, refl, sym, ap, ◌∙◌, arith, List, [], ◌∷◌, ◌++◌, length, map, take, drop, get_or, set, subst}
+use Rattle.std.proofs.Common.{◌≡◌, ℕ, ◌+◌, ◌<◌, sym, ap, ◌∙◌, arith, List, [], ◌∷◌, ◌++◌, length, map, take, drop, get_or, set}
 use Rattle.std.proofs.Math.Seq.{set-append_seam, get_or-append_seam}
 use Rattle.std.proofs.lemmas.List.{length-map, length-take-le, map-append, append_assoc, take_more, drop_more}
 use Rattle.rt_ready.specs.declared.ready.Place.{Place}
@@ -14,5 +14,5 @@ rated_step f xs now i y d small is e =
     let there : get_or now i d ≡ x = ap (λ zs. get_or zs i d) here ∙ ap (λ n. get_or (front ++ x ∷ rest) n d) (sym len) ∙ get_or-append_seam front x rest d in
     let wrote : set now i y ≡ front ++ y ∷ rest = ap (λ zs. set zs i y) here ∙ ap (λ n. set (front ++ x ∷ rest) n y) (sym len) ∙ set-append_seam front x rest y in
     let all : map f (take (i + 1) xs) ++ rest ≡ front ++ f x ∷ rest =
-      ap (λ zs. map f zs ++ rest) (take_more xs i d small) ∙ ap (λ zs. zs ++ rest) (map-append f (take i xs) (x ∷ [])) ∙ append_assoc front (f x ∷ []) rest in
+    ap (λ zs. map f zs ++ rest) (take_more xs i d small) ∙ ap (λ zs. zs ++ rest) (map-append f (take i xs) (x ∷ [])) ∙ append_assoc front (f x ∷ []) rest in
     wrote ∙ ap (λ z. front ++ z ∷ rest) (e ∙ ap f there) ∙ sym all

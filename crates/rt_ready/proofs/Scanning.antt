@@ -1,5 +1,5 @@
 -- The scan for the first ready thread.
-use Rattle.std.proofs.Common.{◌≡◌, ℕ, zero, suc, ◌+◌, ◌<◌, ◌≤◌, Bool, true, false, not, ◌||◌, ◌&&◌, cond, ◌==◌, nat_lt, refl, sym, ap, ◌∙◌, arith, List, [], ◌∷◌, ◌++◌, if◌then◌else◌, Option, Some, None, find, fold, subst}
+use Rattle.std.proofs.Common.{◌≡◌, ℕ, Bool, true, false, not, ◌||◌, ◌&&◌, cond, ◌==◌, nat_lt, refl, sym, ap, ◌∙◌, arith, List, [], ◌∷◌, if◌then◌else◌, Some, None, find, fold}
 use Rattle.std.specs.List.{list_any}
 use Rattle.std.proofs.lemmas.Bool.Decides.{nat_tests}
 use Rattle.rt_ready.specs.Order.{goes_before, better_of, first_place}
@@ -67,7 +67,7 @@ loser_goes version a y ys =
       | true ↦ λ e.
           let lost : beaten version all a ≡ true = or_true_right (goes_before version a a) (goes_before version y a || beaten version ys a) (rw e refl) in
           let same : (z : Place) → not (beaten version all z) ≡ not (beaten version (y ∷ ys) z) = λ z. ap not (or_more (goes_before version a z) (goes_before version y z) (beaten version ys z)
-            (λ k. chain (version == 2) a.priority y.priority z.priority a.since y.since z.since e k)) in
+          (λ k. chain (version == 2) a.priority y.priority z.priority a.since y.since z.since e k)) in
           ap (λ b. cond (not b) (Some a) (find (λ z. not (beaten version all z)) (y ∷ ys))) lost ∙ find-same (λ z. not (beaten version all z)) (λ z. not (beaten version (y ∷ ys) z)) same (y ∷ ys)
       | false ↦ λ e.
           let same_a : beaten version all a ≡ beaten version ys a = rw (self version a, e) refl in

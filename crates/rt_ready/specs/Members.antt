@@ -1,5 +1,5 @@
 -- What always holds of the ready list: each number is below 64 and stands in it once, and there is room for 64.
-use Rattle.std.specs.Prelude.{◌≡◌, ℕ, ◌<◌, ◌≤◌, false, List, [], ◌∷◌, vec_capacity, vec_len, length}
+use Rattle.std.specs.Prelude.{◌≡◌, ◌<◌, ◌≤◌, false, List, [], ◌∷◌, vec_capacity}
 use Rattle.rt_constants.specs.declared.limits.TheConstants.{THREADS_LIMIT}
 use Rattle.rt_ready.specs.Order.{is_in}
 use Rattle.rt_ready.specs.declared.ready.Place.{Place}

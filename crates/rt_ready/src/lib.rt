@@ -3,9 +3,9 @@
 
 mod ready;
 
-pub use ready::{Place, Ready};
-
 ghost use Rattle.rt_ready.specs.Worked.{Picks};
+
+pub use ready::{Place, Ready};
 
 /// Which of small lists of threads goes first, in both versions of the rule.
 pub fn worked()

@@ -74,7 +74,11 @@ fn scan(version: u8, places: &[Place]) -> Option<Place>
 fn rated(id: u8, priority: u8, place: Place) -> Place
     ensures { result ≡ rated id priority place }
 {
-    if place.id == id { Place { priority, ..place } } else { place }
+    if place.id == id {
+        Place { priority, ..place }
+    } else {
+        place
+    }
 }
 
 fn rate(places: &mut [Place], id: u8, priority: u8)

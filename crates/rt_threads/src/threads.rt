@@ -7,7 +7,7 @@ ghost use Rattle.rt_threads.specs.Threads.{thread_at, is_live, with_thread, stat
 use cpu_state::Context;
 use outside_io::NoMemory;
 use rt_constants::limits::{HIGHEST_PRIORITY, LATEST_START, SPAN_LIMIT, THREADS_LIMIT};
-use rt_constants::{failed, EAGAIN, EINVAL};
+use rt_constants::{EAGAIN, EINVAL, failed};
 use std::alloc::Global;
 use std::marker::Model;
 

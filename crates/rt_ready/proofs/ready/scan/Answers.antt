@@ -1,4 +1,4 @@
-use Rattle.std.proofs.Common.{rules, arith}
+use Rattle.std.proofs.Common.{arith}
 use Rattle.std.proofs.lemmas.Grind.{common_steps}
 use Rattle.rt_ready.proofs.Scanning.{scan_is}
 use Rattle.rt_ready.proofs.ready.scan.Goals as goal

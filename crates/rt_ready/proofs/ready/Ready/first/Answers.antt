@@ -1,7 +1,6 @@
-use Rattle.std.proofs.Common.{◌≡◌, ◌<◌, ◌∙◌, ap, sym, subst, Option, Some, IfSome}
+use Rattle.std.proofs.Common.{◌∙◌, ap, sym, Some}
 use Rattle.rt_ready.proofs.Members.{first_below}
 use Rattle.rt_ready.specs.Order.{first_place}
-use Rattle.rt_ready.specs.declared.ready.Place.{Place}
 use Rattle.rt_ready.proofs.ready.Ready.first.Goals as goal
 
 pub returns-in-Some-clause-below : goal.returns-in-Some-clause-below
