@@ -8,11 +8,11 @@ use Rattle.rt_ready.specs.Members.{AreMembers}
 use Rattle.rt_ready.specs.Order.{first_place, id_of, is_beaten_in, is_in, rated}
 use Rattle.rt_ready.specs.declared.ready.Place.{Place}
 
-or_left : (a b : Bool) → (a || b) ≡ false → a ≡ false
+pub or_left : (a b : Bool) → (a || b) ≡ false → a ≡ false
 or_left false b h = refl
 or_left true b h = h
 
-or_right : (a b : Bool) → (a || b) ≡ false → b ≡ false
+pub or_right : (a b : Bool) → (a || b) ≡ false → b ≡ false
 or_right false b h = h
 or_right true b h = absurd cc
 
