@@ -5,4 +5,4 @@ mod errors;
 pub mod limits;
 pub mod lines;
 
-pub use errors::{failed, EAGAIN, EBUSY, EINVAL, ENODEV, ENOSPC};
+pub use errors::{EAGAIN, EBUSY, EINVAL, ENODEV, ENOSPC, failed};

@@ -108,8 +108,8 @@ is_creatable f size = nat_lt f FIFOS_LIMIT && (nat_le 1 size && nat_le size FIFO
 abbrev pub create_reply : ℕ → ℕ → List (Option Fifo) → FifoReply
 create_reply f size fifos =
     if is_creatable f size then (
-      if is_some (fifo_at fifos f) then no_reply EBUSY fifos
-      else replies 0 (with_fifo f (Some (new_fifo size)) fifos))
+    if is_some (fifo_at fifos f) then no_reply EBUSY fifos
+    else replies 0 (with_fifo f (Some (new_fifo size)) fifos))
     else no_reply EINVAL fifos
 
 -- What is asked of a FIFO that there is to be

@@ -1,0 +1,4 @@
+mod Greatest
+mod Members
+mod Rating
+mod Scanning

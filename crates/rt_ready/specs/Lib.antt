@@ -1,2 +1,4 @@
+pub mod Laws
+pub mod Members
 pub mod Order
 pub mod Worked

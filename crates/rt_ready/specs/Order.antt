@@ -1,6 +1,6 @@
 -- The ready threads in order of arrival, and which of them goes first. Threads of greater priority go first (POSIX, SCHED_FIFO); the
 -- order among equal ones is this project's own.
-use Rattle.std.specs.Prelude.{ℕ, ◌==◌, nat_lt, Bool, true, not, ◌&&◌, ◌||◌, List, [], ◌∷◌, ◌++◌, find, filter, map, if◌then◌else◌, Option}
+use Rattle.std.specs.Prelude.{ℕ, ◌==◌, nat_lt, Bool, true, not, ◌&&◌, ◌||◌, List, [], ◌∷◌, ◌++◌, find, filter, map, if◌then◌else◌, Option, Some, None}
 use Rattle.std.specs.List.{list_any}
 use Rattle.rt_ready.specs.declared.ready.Place.{Place}
 
@@ -52,6 +52,11 @@ is_beaten_in version ps a = list_any (λ b. goes_before version b a) ps
 unfoldable pub first_place : ℕ → List Place → Option Place
 first_place version ps = find (λ a. not (is_beaten_in version ps a)) ps
 
+-- of the best so far and one that came later: a scan in order of arrival gives the first place
+abbrev pub better_of : ℕ → Option Place → Place → Option Place
+better_of version None next = Some next
+better_of version (Some best) next = Some (if goes_before version next best then next else best)
+
 -- The list with the version of its rule, 1 or 2
 
 pub record ReadyList : Type 0 where
@@ -63,6 +68,13 @@ is_in i ps = list_any (λ (p : Place). p.id == i) ps
 
 abbrev pub without_place : ℕ → List Place → List Place
 without_place i ps = filter (λ (p : Place). not (p.id == i)) ps
+
+-- a thread comes last
+abbrev pub placed : ℕ → ℕ → ℕ → ReadyList → ReadyList
+placed i priority since ready = record ready { places = ready.places ++ record { id = i; priority = priority; since = since } ∷ [] }
+
+abbrev pub id_of : Place → ℕ
+id_of p = p.id
 
 -- a thread has another priority, and keeps its place
 abbrev pub rated : ℕ → ℕ → Place → Place

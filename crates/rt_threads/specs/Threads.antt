@@ -1,6 +1,6 @@
 -- The live threads (RTLinux 3, pthread_create, pthread_make_periodic_np, pthread_wait_np and their kin; times are ticks, which is this
 -- project's own). Thread n is at place n of 64.
-use Rattle.std.specs.Prelude.{◌≡◌, ℕ, ◌+◌, ◌<◌, nat_le, Bool, true, false, not, ◌&&◌, ◌==◌, List, slice_index_or, slice_set, position, map, if◌then◌else◌, Option, Some, None, is_some, is_none, option_map, ℤ, pos}
+use Rattle.std.specs.Prelude.{ℕ, ◌+◌, ◌<◌, nat_le, Bool, true, false, not, ◌&&◌, ◌==◌, List, slice_index_or, slice_set, position, map, if◌then◌else◌, Option, Some, None, is_some, is_none, option_map, ℤ, pos, negsuc}
 use Rattle.cpu_state.specs.declared.registers.Registers.{Registers}
 use Rattle.rt_constants.specs.Errors.{failed}
 use Rattle.rt_constants.specs.declared.errors.TheConstants.{EAGAIN, EINVAL}
@@ -132,3 +132,8 @@ created threads priority registers =
 abbrev pub NextFits : Option Thread → Type 0
 NextFits None = Unit {0}
 NextFits (Some thread) = thread.next < 9223372036854775808
+
+-- a result that isn't a failure is below a limit
+abbrev pub IsBelow : ℕ → ℤ → Type 0
+IsBelow limit (pos i) = i < limit
+IsBelow limit (negsuc error) = Unit {0}

@@ -2,12 +2,12 @@
 ghost use Rattle.std.specs.Prelude.{◌≡◌, ◌+◌, ◌<◌, ◌&&◌, ℕ, IfOk, IfSome, None, Some, replicate, slice_set, option_map, pos, true, IsTrue, if◌then◌else◌};
 ghost use Rattle.rt_constants.specs.declared.limits.TheConstants.{THREADS_LIMIT};
 ghost use Rattle.rt_threads.specs.declared.threads.State.TheVariants as states;
-ghost use Rattle.rt_threads.specs.Threads.{thread_at, is_live, with_thread, state_of, with_state, with_period, with_next, with_priority, given_registers, live_result, priority_result, is_plan, is_span, is_priority, has_period, if_done, NextFits};
+ghost use Rattle.rt_threads.specs.Threads.{thread_at, is_live, with_thread, state_of, with_state, with_period, with_next, with_priority, given_registers, live_result, priority_result, is_plan, is_span, is_priority, has_period, if_done, free_number, created_result, created, IsBelow, NextFits};
 
 use cpu_state::Context;
 use outside_io::NoMemory;
 use rt_constants::limits::{HIGHEST_PRIORITY, LATEST_START, SPAN_LIMIT, THREADS_LIMIT};
-use rt_constants::{failed, EINVAL};
+use rt_constants::{EAGAIN, EINVAL, failed};
 use std::alloc::Global;
 use std::marker::Model;
 
@@ -89,6 +89,43 @@ impl Threads {
         ensures { self.new ≡ slice_set self.old id thread }
     {
         self.places[id as usize] = thread;
+    }
+
+    // The lowest number that isn't live.
+    fn free_number(&self) -> Option<usize>
+        ensures number { result ≡ free_number self.now }
+        ensures below { IfSome result (λ i. i < THREADS_LIMIT) }
+    {
+        self.places.iter().position(|place| place.is_none())
+    }
+
+    /// A new thread at the lowest free number, which is the result: it is ready, with the priority and registers given, and has no
+    /// period. -22 exactly where the priority is above 255, else -11 exactly where 64 threads are live, and then nothing changes
+    /// (RTLinux 3, pthread_create; the limits are this project's own).
+    pub fn create(&mut self, priority: u32, context: Context) -> i32
+        ensures result { result ≡ created_result self.old priority }
+        ensures below { IsBelow THREADS_LIMIT result }
+        ensures threads { self.new ≡ created self.old priority context }
+    {
+        if priority > HIGHEST_PRIORITY {
+            return failed(EINVAL);
+        }
+        match self.free_number() {
+            Some(id) => {
+                self.put(
+                    id as u32,
+                    Some(Thread {
+                        registers: context,
+                        priority: priority as u8,
+                        state: State::Ready,
+                        period: 0,
+                        next: 0,
+                    }),
+                );
+                id as i32
+            }
+            None => failed(EAGAIN),
+        }
     }
 
     /// What a thread does; `None` exactly where the number isn't live.

@@ -1,10 +1,10 @@
 // The timeline.
-ghost use Rattle.std.specs.Prelude.{◌≡◌, ◌<◌, ℕ, IfOk, IfSome, None, Some, replicate, slice_index_or};
+ghost use Rattle.std.specs.Prelude.{◌≡◌, ◌<◌, ℕ, IfOk, IfSome, None, Some, replicate, slice_index_or, option_map};
 ghost use Rattle.rt_constants.specs.declared.limits.TheConstants.{THREADS_LIMIT};
-ghost use Rattle.rt_timeline.specs.Dues.{due_in, earlier, nearest_from, nearest_due, first_due, come_by, with_due, taken_from, IsOwner, time_of, earlier_due};
+ghost use Rattle.rt_timeline.specs.Dues.{due_in, earlier, nearest_from, nearest_due, first_due, come_by, with_due, taken_from, IsOwner, time_of, earlier_due, count_until};
 
 use outside_io::NoMemory;
-use rt_constants::limits::THREADS_LIMIT;
+use rt_constants::limits::{SHOT_LIMIT, THREADS_LIMIT};
 use std::alloc::Global;
 use std::marker::Model;
 
@@ -96,6 +96,14 @@ fn come_by(now: u64, due: Option<(Due, u64)>) -> Option<(Due, u64)>
     }
 }
 
+// The count of the one-shot timer, set in tick `now` for a due: it rises with the pulse behind its count, and a tick has two.
+fn count_until(now: u64, due: u64) -> u16
+    ensures { result ≡ count_until now due }
+{
+    let ticks = due.saturating_sub(now).min(u64::from(SHOT_LIMIT)).max(1);
+    (2 * ticks - 1) as u16
+}
+
 impl Timeline {
     // The due at a place.
     fn due_at(&self, place: u8) -> Option<ThreadDue>
@@ -126,6 +134,17 @@ impl Timeline {
         ensures { result ≡ nearest_due self.now }
     {
         earlier_due(time_of(self.first_thread()), self.guest)
+    }
+
+    /// The count of the one-shot timer for the nearest due, set in tick `now`; `None` exactly where there is no due (8254 data sheet,
+    /// mode 0: the output rises with the pulse behind the count; two pulses a tick).
+    pub fn count(&self, now: u64) -> Option<u16>
+        ensures { result ≡ option_map (count_until now) (nearest_due self.now) }
+    {
+        match self.nearest() {
+            Some(due) => Some(count_until(now, due)),
+            None => None,
+        }
     }
 
     /// Takes the first due that is at most `now`, by due, threads by number before the guest.

@@ -1,0 +1,11 @@
+//! Tests of the executive's parts, over their public calls.
+#![tactic(auto)]
+
+#[cfg(test)]
+mod dues;
+#[cfg(test)]
+mod fifos;
+#[cfg(test)]
+mod ready_threads;
+#[cfg(test)]
+mod threads;
