@@ -1,6 +1,6 @@
 // The flags.
-ghost use Rattle.std.specs.Prelude.{◌≡◌};
-ghost use Rattle.cpu_state.specs.Eflags.{flags_of, word_of, with_interrupt, weight as weight_of};
+ghost use Rattle.std.specs.Prelude.{⊤, ◌≡◌, map};
+ghost use Rattle.cpu_state.specs.Eflags.{flags_of, word_of, with_interrupt, weight as weight_of, flags_in, bits_of, named_flags, named_bits};
 
 use bitflags::{Flag, Flags};
 
@@ -39,6 +39,13 @@ const OVERFLOW_BIT: u32 = 1 << 11;
 
 // What a flag is worth in the word.
 fn weight(flag: bool, bit: u32) -> u32
+    ensures { result ≡ weight_of flag bit }
+{
+    if flag { bit } else { 0 }
+}
+
+// What a flag is worth among the bits of the set.
+fn set_weight(flag: bool, bit: u8) -> u8
     ensures { result ≡ weight_of flag bit }
 {
     if flag { bit } else { 0 }
@@ -157,22 +164,50 @@ impl Eflags {
     ];
 }
 
+/// The flags as a set: CF, PF, AF, ZF, SF, IF, DF and OF are its bits 0 to 7, and it has no other. So every call of the
+/// trait is exact; bit 1 of EFLAGS is no flag, and `word` alone adds it.
 impl Flags for Eflags {
-    type Bits = u32;
+    type Bits = u8;
 
-    fn flags<'a>() -> &'a [Flag<Eflags>] {
+    ghost exact = { ⊤ };
+
+    ghost table = { named_bits };
+
+    ghost set_of = { bits_of };
+
+    fn flags<'a>() -> &'a [Flag<Eflags>]
+        ensures named { map (λ f. (f.name.now, f.value)) result.now ≡ named_flags }
+        ensures bits { map (λ f. (f.name.now, bits_of f.value)) result.now ≡ named_bits }
+    {
         Eflags::FLAGS
     }
 
-    fn bits(&self) -> u32
-        ensures { result ≡ word_of self.now }
+    fn bits(&self) -> u8
+        ensures { result ≡ bits_of self.now }
     {
-        self.word()
+        set_weight(self.carry, 1)
+            + set_weight(self.parity, 2)
+            + set_weight(self.adjust, 4)
+            + set_weight(self.zero, 8)
+            + set_weight(self.sign, 16)
+            + set_weight(self.interrupt, 32)
+            + set_weight(self.direction, 64)
+            + set_weight(self.overflow, 128)
     }
 
-    fn from_bits_retain(bits: u32) -> Eflags
-        ensures { result ≡ flags_of bits }
+    fn from_bits_retain(bits: u8) -> Eflags
+        ensures flags { result ≡ flags_in bits }
+        ensures bits { bits_of result ≡ bits }
     {
-        Eflags::from_word(bits)
+        Eflags {
+            carry: bits % 2 == 1,
+            parity: bits / 2 % 2 == 1,
+            adjust: bits / 4 % 2 == 1,
+            zero: bits / 8 % 2 == 1,
+            sign: bits / 16 % 2 == 1,
+            interrupt: bits / 32 % 2 == 1,
+            direction: bits / 64 % 2 == 1,
+            overflow: bits / 128 % 2 == 1,
+        }
     }
 }

@@ -1,6 +1,6 @@
 -- The laws of the definitions.
 use Rattle.std.proofs.Common.{◌≡◌, ℕ, zero, suc, ◌+◌, ◌*◌, ◌/◌, ◌%◌, ◌^◌, ◌<◌, ◌≤◌, ◌==◌, w32, arith, refl, sym, ap, ◌∙◌, Some, None, true, false}
-use Rattle.std.specs.Prelude.{ℤ, pos, negsuc, ◌+ℤ◌, ◌*ℤ◌, int_div, int_rem, Bool, if◌then◌else◌, Option}
+use Rattle.std.specs.Prelude.{ℤ, pos, negsuc, ◌+ℤ◌, ◌*ℤ◌, int_lt, int_div, int_rem, Bool, if◌then◌else◌, Option}
 use Rattle.std.specs.Int.RustNames.{unsigned_abs}
 use Rattle.std.proofs.lemmas.Int.{ints, quot-rem, rem_below}
 use Rattle.std.proofs.lemmas.Nat.{leading_top, mul-mod_second, div-add-mod'}
@@ -10,7 +10,7 @@ use Rattle.cpu_state.specs.Width.{modulus}
 use Rattle.cpu_state.specs.declared.width.Width.{Width}
 use Rattle.cpu_state.specs.declared.width.Width.TheVariants.{W8, W16, W32}
 use Rattle.i386_alu.specs.Condition.{condition_of}
-use Rattle.i386_alu.specs.Laws.{OddConditionsAreContraries, DivIsExact, IdivIsExact, LowestIsSet, HighestIsSet, ShiftsScale}
+use Rattle.i386_alu.specs.Laws.{OddConditionsAreContraries, DivIsExact, IsRemainder, IdivIsExact, LowestIsSet, HighestIsSet, ShiftsScale}
 use Rattle.i386_alu.specs.Operand.{signed, leaves, wrapped}
 use Rattle.i386_alu.specs.Quotient.{divide_of, dividend_of, unsigned_quotient, signed_dividend, signed_quotient}
 use Rattle.i386_alu.specs.Scan.{highest_set}
@@ -98,14 +98,26 @@ answered : (b : Bool) (x y q r : ℕ) → (if b then None else some_pair x y) �
 answered true x y q r e = cc
 answered false x y q r e = (refl, ap first e, ap second e)
 
+rem_negative : (n d : ℤ) → int_lt (int_rem n d) (pos 0) ≡ true → int_lt n (pos 0) ≡ true
+rem_negative (pos n) d h = grind (arith, ints)
+rem_negative (negsuc n) d h = refl
+
+rem_positive : (n d : ℤ) → int_lt (pos 0) (int_rem n d) ≡ true → int_lt (pos 0) n ≡ true
+rem_positive (pos zero) d h = grind (arith, ints)
+rem_positive (pos (suc n)) d h = grind (arith, ints)
+rem_positive (negsuc n) d h = grind (arith, ints)
+
+is_remainder : (n d : ℤ) → 0 < unsigned_abs d → IsRemainder n d (int_rem n d)
+is_remainder n d above = record { below = rem_below n d above; negative = rem_negative n d; positive = rem_positive n d }
+
 signed_exact : (w : Width) (n d : ℤ) (q r : ℕ) → 0 < unsigned_abs d → unsigned_abs d ≤ modulus w / 2 → signed_quotient w n d ≡ Some (q, r)
-    → signed w q *ℤ d +ℤ signed w r ≡ n
+    → (signed w q *ℤ d +ℤ signed w r ≡ n) × IsRemainder n d (signed w r)
 signed_exact w n d q r above below e =
     let parts = answered (leaves w (int_div n d)) (wrapped (modulus w) (int_div n d)) (wrapped (modulus w) (int_rem n d)) q r e in
     let small = rem_below n d above in
     let quotient = signed_back w (int_div n d) parts.0 in
     let remainder = signed_back w (int_rem n d) (stays w (int_rem n d) (omega arith)) in
-    rw (sym parts.1, sym parts.2, quotient, remainder) (quot-rem n d)
+    rw (sym parts.1, sym parts.2, quotient, remainder) (quot-rem n d, is_remainder n d above)
 
 not_none : (b : ℕ) (o : Option (ℕ × ℕ)) (q r : ℕ) → (if b == 0 then None else o) ≡ Some (q, r) → (0 < b) × (o ≡ Some (q, r))
 not_none b o q r e = grind arith

@@ -1,5 +1,6 @@
 -- What holds of the definitions.
-use Rattle.std.specs.Prelude.{◌≡◌, ℕ, ◌+◌, ◌*◌, ◌/◌, ◌%◌, ◌^◌, ◌<◌, ◌≤◌, true, false, not, Some, ◌+ℤ◌, ◌*ℤ◌}
+use Rattle.std.specs.Prelude.{◌≡◌, ℕ, ◌+◌, ◌*◌, ◌/◌, ◌%◌, ◌^◌, ◌<◌, ◌≤◌, true, false, not, Some, ℤ, pos, ◌+ℤ◌, ◌*ℤ◌, int_lt}
+use Rattle.std.specs.Int.RustNames.{unsigned_abs}
 use Rattle.cpu_state.specs.Eflags.{bit}
 use Rattle.cpu_state.specs.Width.{modulus}
 use Rattle.cpu_state.specs.declared.eflags.Eflags.{Eflags}
@@ -21,11 +22,18 @@ DivIsExact =
     (w : Width) (high low by quotient remainder : ℕ) → divide_of false w high low by ≡ Some (quotient, remainder)
     → (quotient * by + remainder ≡ dividend_of w high low) × (remainder < by)
 
--- what IDIV gives makes up the dividend, all in signed numbers
+-- a remainder is below the divisor in magnitude, negative only of a negative dividend, and positive only of a positive one
+pub record IsRemainder (dividend by remainder : ℤ) : Type 0 where
+  pub below : unsigned_abs remainder < unsigned_abs by
+  pub negative : int_lt remainder (pos 0) ≡ true → int_lt dividend (pos 0) ≡ true
+  pub positive : int_lt (pos 0) remainder ≡ true → int_lt (pos 0) dividend ≡ true
+
+-- what IDIV gives makes up the dividend, with a remainder of the dividend's sign or zero, all in signed numbers
 abbrev pub IdivIsExact : Type 0
 IdivIsExact =
     (w : Width) (high low by quotient remainder : ℕ) → by < modulus w → divide_of true w high low by ≡ Some (quotient, remainder)
-    → signed w quotient *ℤ signed w by +ℤ signed w remainder ≡ signed_dividend w high low
+    → (signed w quotient *ℤ signed w by +ℤ signed w remainder ≡ signed_dividend w high low)
+    × IsRemainder (signed_dividend w high low) (signed w by) (signed w remainder)
 
 -- the lowest bit that is set is set, and none below it
 abbrev pub LowestIsSet : Type 0

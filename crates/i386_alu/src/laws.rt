@@ -11,7 +11,8 @@ pub fn div_is_exact()
     ensures { DivIsExact }
 {}
 
-/// What IDIV gives makes up the dividend, all in signed numbers.
+/// What IDIV gives makes up the dividend, with a remainder that is below the divisor in magnitude and has the dividend's sign
+/// or is zero, all in signed numbers.
 pub fn idiv_is_exact()
     ensures { IdivIsExact }
 {}

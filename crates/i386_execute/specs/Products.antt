@@ -25,22 +25,26 @@ with_halves w low high g = with_part w (high_half w) high (with_part w 0 low g)
 abbrev pub doubled : Form → Registers → Product → Change
 doubled f r p = Done (record r { general = with_halves f.width p.low p.high r.general; eflags = p.flags }) []
 
+-- AL, AX or EAX by a factor
+abbrev pub multiplied_with : Bool → Form → Registers → ℕ → Change
+multiplied_with signed f r a = doubled f r (multiply_of signed f.width (part f.width 0 r.general) a r.eflags)
+
 -- MUL, and IMUL of one operand: AL, AX or EAX by the operand
 unfoldable pub multiplied : Bool → Form → Registers → List ℕ → Change
-multiplied signed f r ws = doubled f r (multiply_of signed f.width (part f.width 0 r.general) (first f r ws) r.eflags)
+multiplied signed f r ws = multiplied_with signed f r (first f r ws)
 
 -- the low half of a signed product goes into the first operand
 abbrev pub times : Form → Registers → Product → Change
 times f r p = computed f r (record { value = p.low; flags = p.flags })
 
--- IMUL of one, two or three operands
-abbrev pub multiplied_by : Operand → Operand → Form → Registers → List ℕ → Change
-multiplied_by Absent c f r ws = multiplied true f r ws
-multiplied_by b Absent f r ws = times f r (multiply_of true f.width (first f r ws) (second f r ws) r.eflags)
-multiplied_by b c f r ws = times f r (multiply_of true f.width (second f r ws) (value_of f.width c r.general 0) r.eflags)
+-- IMUL of one, two or three operands, of which the first two have these values
+abbrev pub multiplied_by : Operand → Operand → Form → Registers → ℕ → ℕ → Change
+multiplied_by Absent d f r a b = multiplied_with true f r a
+multiplied_by c Absent f r a b = times f r (multiply_of true f.width a b r.eflags)
+multiplied_by c d f r a b = times f r (multiply_of true f.width b (value_of f.width d r.general 0) r.eflags)
 
 unfoldable pub signed_multiplied : Form → Registers → List ℕ → Change
-signed_multiplied f r ws = multiplied_by f.second f.third f r ws
+signed_multiplied f r ws = multiplied_by f.second f.third f r (first f r ws) (second f r ws)
 
 -- a quotient goes into AL, AX or EAX and its remainder into AH, DX or EDX; the divide error is exception 0
 abbrev pub divided_into : Option (ℕ × ℕ) → Form → Registers → Change

@@ -6,11 +6,11 @@ ghost use Rattle.i386_execute.specs.Arithmetic.{combined, compared, altered, shi
 ghost use Rattle.i386_execute.specs.Loads.{first_touches, both_touches};
 ghost use Rattle.i386_execute.specs.Unit.{row};
 
-use crate::results::{made, onward, small};
+use crate::results::{complete, onward, small};
 use cpu_state::{Access, Bus, Registers};
 use i386_alu::{binary, double_shift, shift, unary};
 use i386_decode::Form;
-use i386_effects::{Stepped, finish, read, value};
+use i386_effects::{Stepped, read, value};
 
 // ADD, OR, ADC, SBB, AND, SUB, XOR.
 #[tactic(auto, unfolding(crate::specs::Arithmetic::combined, crate::specs::Loads::both_touches))]
@@ -28,8 +28,7 @@ pub(crate) fn combine<B: Bus>(form: &Form, length: u8, regs: &mut Registers, bus
         Err(at) => return Stepped::Outside(Access::Load, at),
     };
     let (value, eflags) = binary(form.op, form.width, a, b, regs.eflags);
-    let eip = onward(regs.eip, u32::from(length));
-    made(finish(form.width, &form.first, value, eflags, eip, regs, bus))
+    complete(value, eflags, form, length, regs, bus)
 }
 
 // CMP and TEST.
@@ -64,8 +63,7 @@ pub(crate) fn alter<B: Bus>(form: &Form, length: u8, regs: &mut Registers, bus: 
         Err(at) => return Stepped::Outside(Access::Load, at),
     };
     let (value, eflags) = unary(form.op, form.width, a, regs.eflags);
-    let eip = onward(regs.eip, u32::from(length));
-    made(finish(form.width, &form.first, value, eflags, eip, regs, bus))
+    complete(value, eflags, form, length, regs, bus)
 }
 
 // ROL, ROR, RCL, RCR, SHL, SHR, SAR.
@@ -85,8 +83,7 @@ pub(crate) fn shift_operand<B: Bus>(
     };
     let count = small(&form.second, regs);
     let (value, eflags) = shift(form.op, form.width, a, count, regs.eflags);
-    let eip = onward(regs.eip, u32::from(length));
-    made(finish(form.width, &form.first, value, eflags, eip, regs, bus))
+    complete(value, eflags, form, length, regs, bus)
 }
 
 // SHLD and SHRD.
@@ -108,6 +105,5 @@ pub(crate) fn double_shift_operand<B: Bus>(
     let b = value(form.width, &form.second, &regs.general, 0);
     let count = small(&form.third, regs);
     let (value, eflags) = double_shift(form.op, form.width, a, b, count, regs.eflags);
-    let eip = onward(regs.eip, u32::from(length));
-    made(finish(form.width, &form.first, value, eflags, eip, regs, bus))
+    complete(value, eflags, form, length, regs, bus)
 }

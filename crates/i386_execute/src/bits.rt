@@ -7,11 +7,11 @@ ghost use Rattle.i386_execute.specs.Bits.{bytes_away, tested_at, tested_read, te
 ghost use Rattle.i386_execute.specs.Loads.{second_touches};
 ghost use Rattle.i386_execute.specs.Unit.{row};
 
-use crate::results::{made, onward};
+use crate::results::{complete, onward};
 use cpu_state::{Access, Bus, Registers, Width};
 use i386_alu::{bit, scan};
 use i386_decode::{Form, Operand};
-use i386_effects::{Stepped, address, finish, part, read, set, value};
+use i386_effects::{Stepped, address, part, read, set, value};
 
 // How many bytes away the operand stands that holds a bit, modulo 2^32.
 fn bytes_away(width: Width, number: u32) -> u64
@@ -136,6 +136,5 @@ pub(crate) fn scan_bits<B: Bus>(
     };
     let old = value(form.width, &form.first, &regs.general, 0);
     let (value, eflags) = scan(form.op, form.width, source, old, regs.eflags);
-    let eip = onward(regs.eip, u32::from(length));
-    made(finish(form.width, &form.first, value, eflags, eip, regs, bus))
+    complete(value, eflags, form, length, regs, bus)
 }

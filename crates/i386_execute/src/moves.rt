@@ -7,7 +7,7 @@ ghost use Rattle.i386_execute.specs.Loads.{first_touches, second_touches};
 ghost use Rattle.i386_execute.specs.Moves.{copied, exchanged, extended, width_named, extended_touches, zero_extended, sign_extended, half, widened, sign_spread, place_of, addressed, table_touches, translated, set_where};
 ghost use Rattle.i386_execute.specs.Unit.{row, plain_row};
 
-use crate::results::{code, made, onward};
+use crate::results::{code, complete, onward};
 use cpu_state::{Access, Bus, EBX, Registers, Width};
 use i386_alu::condition;
 use i386_decode::{Form, Operand};
@@ -23,9 +23,7 @@ pub(crate) fn copy<B: Bus>(form: &Form, length: u8, regs: &mut Registers, bus: &
         Ok(a) => a,
         Err(at) => return Stepped::Outside(Access::Load, at),
     };
-    let eip = onward(regs.eip, u32::from(length));
-    let eflags = regs.eflags;
-    made(finish(form.width, &form.first, a, eflags, eip, regs, bus))
+    complete(a, regs.eflags, form, length, regs, bus)
 }
 
 // XCHG.
@@ -94,9 +92,7 @@ pub(crate) fn extend_by_zero<B: Bus>(
         Ok(a) => a,
         Err(at) => return Stepped::Outside(Access::Load, at),
     };
-    let eip = onward(regs.eip, u32::from(length));
-    let eflags = regs.eflags;
-    made(finish(form.width, &form.first, a, eflags, eip, regs, bus))
+    complete(a, regs.eflags, form, length, regs, bus)
 }
 
 // MOVSX.
@@ -116,9 +112,7 @@ pub(crate) fn extend_by_sign<B: Bus>(
         Err(at) => return Stepped::Outside(Access::Load, at),
     };
     let value = extended(narrow, a);
-    let eip = onward(regs.eip, u32::from(length));
-    let eflags = regs.eflags;
-    made(finish(form.width, &form.first, value, eflags, eip, regs, bus))
+    complete(value, regs.eflags, form, length, regs, bus)
 }
 
 // Half of a width.
@@ -194,9 +188,7 @@ pub(crate) fn load_address<B: Bus>(
     ensures lenders { B.lenders bus.new ≡ B.lenders bus.old }
 {
     let value = place(&form.second, &regs.general);
-    let eip = onward(regs.eip, u32::from(length));
-    let eflags = regs.eflags;
-    made(finish(form.width, &form.first, value, eflags, eip, regs, bus))
+    complete(value, regs.eflags, form, length, regs, bus)
 }
 
 // XLAT.
@@ -229,7 +221,5 @@ pub(crate) fn set_on_condition<B: Bus>(
 {
     let holds = condition(code(&form.second, regs), regs.eflags);
     let value = if holds { 1 } else { 0 };
-    let eip = onward(regs.eip, u32::from(length));
-    let eflags = regs.eflags;
-    made(finish(form.width, &form.first, value, eflags, eip, regs, bus))
+    complete(value, regs.eflags, form, length, regs, bus)
 }

@@ -4,17 +4,16 @@ ghost use Rattle.cpu_state.specs.Width.{modulus};
 ghost use Rattle.i386_decode.specs.WellFormed.{memory_count};
 ghost use Rattle.i386_alu.specs.Product.{multiply_of};
 ghost use Rattle.i386_effects.specs.Effect.{came_to, changed};
-ghost use Rattle.i386_effects.specs.Operands.{part};
 ghost use Rattle.i386_execute.specs.Loads.{first_touches, both_touches};
-ghost use Rattle.i386_execute.specs.Products.{high_half, with_halves, doubled, multiplied, times, signed_multiplied, divided};
+ghost use Rattle.i386_execute.specs.Products.{high_half, with_halves, multiplied_with, multiplied, times, multiplied_by, signed_multiplied, divided};
 ghost use Rattle.i386_execute.specs.Unit.{moved_on, row};
 
-use crate::results::{made, onward};
+use crate::results::{complete, onward};
 use crate::unit::DIVIDE_ERROR;
 use cpu_state::{Access, Bus, Registers, Width};
 use i386_alu::{divide, multiply};
 use i386_decode::{Form, Operand};
-use i386_effects::{ACCUMULATOR, AH, DATA, Stepped, finish, part, read, set_part, value};
+use i386_effects::{ACCUMULATOR, AH, DATA, Stepped, part, read, set_part, value};
 
 // The register of the high half: AH, DX or EDX.
 fn high_half(width: Width) -> u8
@@ -45,7 +44,7 @@ fn multiply_accumulator<B: Bus>(
     bus: &mut B,
 ) -> Stepped
     requires { by < modulus form.now.width }
-    ensures effect { let r = moved_on length regs.old in came_to result regs.new (B.state bus.new) ≡ changed B.ports regs.old (B.state bus.old) (doubled form.now r (multiply_of signed form.now.width (part form.now.width 0 r.general) by r.eflags)) }
+    ensures effect { let r = moved_on length regs.old in came_to result regs.new (B.state bus.new) ≡ changed B.ports regs.old (B.state bus.old) (multiplied_with signed form.now r by) }
     ensures lenders { B.lenders bus.new ≡ B.lenders bus.old }
 {
     let a = part(form.width, ACCUMULATOR, &regs.general);
@@ -71,8 +70,7 @@ fn multiply_into_first<B: Bus>(
     ensures lenders { B.lenders bus.new ≡ B.lenders bus.old }
 {
     let (low, _, eflags) = multiply(true, form.width, a, b, regs.eflags);
-    let eip = onward(regs.eip, u32::from(length));
-    made(finish(form.width, &form.first, low, eflags, eip, regs, bus))
+    complete(low, eflags, form, length, regs, bus)
 }
 
 // MUL.
@@ -93,8 +91,32 @@ pub(crate) fn multiply_operand<B: Bus>(
     multiply_accumulator(false, a, form, length, regs, bus)
 }
 
-// IMUL of one, two or three operands.
-#[tactic(auto, unfolding(crate::specs::Products::signed_multiplied, crate::specs::Products::multiplied, crate::specs::Loads::both_touches))]
+// IMUL of one, two or three operands, of which the first two have these values.
+fn multiply_by_count<B: Bus>(
+    a: u32,
+    b: u32,
+    form: &Form,
+    length: u8,
+    regs: &mut Registers,
+    bus: &mut B,
+) -> Stepped
+    requires a_fits { a < modulus form.now.width }
+    requires b_fits { b < modulus form.now.width }
+    ensures effect { let r = moved_on length regs.old in came_to result regs.new (B.state bus.new) ≡ changed B.ports regs.old (B.state bus.old) (multiplied_by form.now.second form.now.third form.now r a b) }
+    ensures lenders { B.lenders bus.new ≡ B.lenders bus.old }
+{
+    match (&form.second, &form.third) {
+        (Operand::Absent, _) => multiply_accumulator(true, a, form, length, regs, bus),
+        (_, Operand::Absent) => multiply_into_first(a, b, form, length, regs, bus),
+        (_, by) => {
+            let by = value(form.width, by, &regs.general, 0);
+            multiply_into_first(b, by, form, length, regs, bus)
+        }
+    }
+}
+
+// IMUL.
+#[tactic(auto, unfolding(crate::specs::Products::signed_multiplied, crate::specs::Loads::both_touches))]
 pub(crate) fn multiply_signed<B: Bus>(
     form: &Form,
     length: u8,
@@ -113,14 +135,7 @@ pub(crate) fn multiply_signed<B: Bus>(
         Ok(b) => b,
         Err(at) => return Stepped::Outside(Access::Load, at),
     };
-    match (&form.second, &form.third) {
-        (Operand::Absent, _) => multiply_accumulator(true, a, form, length, regs, bus),
-        (_, Operand::Absent) => multiply_into_first(a, b, form, length, regs, bus),
-        (_, by) => {
-            let by = value(form.width, by, &regs.general, 0);
-            multiply_into_first(b, by, form, length, regs, bus)
-        }
-    }
+    multiply_by_count(a, b, form, length, regs, bus)
 }
 
 // DIV and IDIV.
