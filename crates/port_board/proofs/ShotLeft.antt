@@ -8,7 +8,7 @@ use Rattle.pit_8254.specs.Counter.{full_count}
 use Rattle.pit_8254.specs.declared.counter.Mode.{Mode}
 use Rattle.pit_8254.specs.declared.counter.Mode.TheVariants.{TerminalCount}
 use Rattle.device_script.specs.declared.event.Event.{Event}
-use Rattle.port_board.specs.Board.{AreEvents, device_step}
+use Rattle.port_board.specs.Board.{AreEvents, device_step, new_board}
 use Rattle.port_board.specs.OneShot.{OneShot, one_shot_set, one_less}
 use Rattle.port_board.specs.Left.{left_by, ticks_left, IsShot, CountsTicks, SetFor}
 use Rattle.port_board.specs.declared.board.Board.{Board}
@@ -65,3 +65,13 @@ sets_left b k some most =
     let is = sets b k some most in
     let left = reads (one_shot_set k b) (Some k) is in
     record { left = left; shot = subst (OneShot (one_shot_set k b)) (sym left) is }
+
+-- a board as it is made has no one-shot
+idle : OneShot new_board None
+idle = inl (record { counts = refl; low = refl })
+
+pub none_at_first : ticks_left new_board ≡ None
+none_at_first = reads new_board None idle
+
+pub shot_at_first : IsShot new_board
+shot_at_first = subst (OneShot new_board) (sym none_at_first) idle

@@ -1,6 +1,6 @@
 // The devices, their lines, and accesses to their ports.
 
-ghost use Rattle.std.specs.Prelude.{◌≡◌, ◌<◌, ◌≤◌, ◌||◌, if◌then◌else◌, IsTrue, ℕ, Some};
+ghost use Rattle.std.specs.Prelude.{◌≡◌, ◌<◌, ◌≤◌, ◌||◌, if◌then◌else◌, IsTrue, ℕ, Some, None};
 ghost use Rattle.line_sets.specs.LineSet.{has};
 ghost use Rattle.pic_8259.specs.Controllers.{IsPair, latch_of};
 ghost use Rattle.pic_8259.specs.Boot.{IsBooted};
@@ -57,6 +57,8 @@ impl Board {
     pub fn new() -> Board
         ensures value { result ≡ new_board }
         ensures sampled { IsSampled result }
+        ensures left { ticks_left result ≡ None }
+        ensures shot { IsShot result }
     {
         Board {
             pair: Pair::new(),

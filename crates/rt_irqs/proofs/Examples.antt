@@ -1,6 +1,7 @@
 -- Numbers that are no lines, by computation.
 use Rattle.std.proofs.Common.{◌≡◌, false, refl}
-use Rattle.rt_irqs.specs.Irqs.{no_lines, failed, has_soft, is_pendable, request_result, free_result, free_soft_result, soft_freed}
+use Rattle.rt_constants.specs.Errors.{failed}
+use Rattle.rt_irqs.specs.Irqs.{no_lines, has_soft, is_pendable, request_result, free_result, free_soft_result, soft_freed}
 
 largest_is_not_taken : has_soft no_lines 4294967295 ≡ false
 largest_is_not_taken = refl
