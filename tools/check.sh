@@ -19,6 +19,7 @@ if ! python3 -c 'import sys; sys.exit(sys.version_info < (3, 8))' 2> /dev/null; 
     skip "no python3 from 3.8 on, in which the tools are written"
     exit 0
 fi
+python3 tools/tests/check_clauses.py
 python3 tools/tests/check_traces.py "$program"
 python3 tools/tests/check_explain.py "$program"
 

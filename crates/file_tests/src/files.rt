@@ -25,52 +25,53 @@ fn lines_of_refusals(rt: HostRuntime) {
 const SYSTEM: &str =
     "version = 1\nimage = 'k.bin'\nguest_memory = 65536\nreal_time_memory = 69632\n";
 
+// The cause of a refusal that is about this name.
+fn cause_of(refusal: Option<Refusal>, name: &[u8]) -> Option<Cause> {
+    match refusal {
+        Some(Refusal::Because(cause, subject)) if subject.as_slice() == name => Some(cause),
+        _ => None,
+    }
+}
+
 // Why a system file isn't taken that has one more line.
-fn system_refusal(alloc: Global, line: &str) -> Result<Option<Refusal>, Fail> {
+fn system_refusal(alloc: Global, line: &str) -> Result<Option<Cause>, Fail> {
     let mut text = String::from_str(alloc, SYSTEM)?;
     text.push_str(line)?;
-    Ok(accept_system(alloc, text.as_bytes()).err())
+    let refusal = accept_system(alloc, b"s.toml", text.as_bytes()).err();
+    Ok(cause_of(refusal, b"s.toml"))
 }
 
 #[test]
 fn systems_without_modules(rt: HostRuntime) -> Result<(), Fail> {
     let alloc = rt.alloc();
     assert_eq!(rt; system_refusal(alloc, "modules = []")?, None);
-    assert_eq!(rt;
-        system_refusal(alloc, "modules = ['m.elf']")?,
-        Some(Refusal::Because(Field))
-    );
-    assert_eq!(rt;
-        system_refusal(alloc, "version =")?,
-        Some(Refusal::Because(Document))
-    );
+    assert_eq!(rt; system_refusal(alloc, "modules = ['m.elf']")?, Some(Field));
+    assert_eq!(rt; system_refusal(alloc, "version =")?, Some(Document));
     Ok(())
 }
 
 #[test]
 fn an_image_beside_the_stub(rt: HostRuntime) -> Result<(), Fail> {
     let alloc = rt.alloc();
-    let system = accept_system(alloc, SYSTEM.as_bytes())
+    let system = accept_system(alloc, b"s.toml", SYSTEM.as_bytes())
         .ok()
         .ok_or("no system")?;
-    let sides = accept_image(alloc, &system, &SMALL).ok().ok_or("no image")?;
+    let sides = accept_image(alloc, b"k.bin", &system, &SMALL)
+        .ok()
+        .ok_or("no image")?;
     assert_eq!(rt; sides.entry, 0x1234);
     assert_eq!(rt; sides.memory.guest_bytes().len(), 65_536);
     assert_eq!(rt; sides.memory.real_time_bytes().len(), 69_632);
     assert_eq!(rt; sides.memory.real_time_bytes()[1], 0xF9);
-    assert_eq!(rt;
-        accept_image(alloc, &system, &SMALL[..51]).err(),
-        Some(Refusal::Because(Image(1)))
-    );
+    let short = accept_image(alloc, b"k.bin", &system, &SMALL[..51]).err();
+    assert_eq!(rt; cause_of(short, b"k.bin"), Some(Image(1)));
     Ok(())
 }
 
 #[test]
 fn a_script_is_refused_by_its_first_bad_line(rt: HostRuntime) {
     let alloc = rt.alloc();
-    assert!(rt; accept_script(alloc, b"# nothing\n").is_ok());
-    assert_eq!(rt;
-        accept_script(alloc, b"3 line 5\n5 line 4").err(),
-        Some(Refusal::Because(Line(2)))
-    );
+    assert!(rt; accept_script(alloc, b"d.txt", b"# nothing\n").is_ok());
+    let bad = accept_script(alloc, b"d.txt", b"3 line 5\n5 line 4").err();
+    assert_eq!(rt; cause_of(bad, b"d.txt"), Some(Line(2)));
 }

@@ -2,7 +2,7 @@
 use crate::parts::image_of;
 use elf_loader::PlaceRefusal;
 use elf_loader::PlaceRefusal::{Outside, Overlap};
-use run_memory::{make_sides, reserved_spans};
+use run_files::{make_sides, reserved_spans};
 use std::alloc::Global;
 use std::test::Fail;
 

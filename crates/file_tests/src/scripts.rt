@@ -59,3 +59,20 @@ const SEVENTEEN: &str =
 fn a_seventeenth_event_of_a_tick_is_bad(rt: HostRuntime) {
     assert_eq!(rt; bad_line(rt.alloc(), SEVENTEEN), Some(17));
 }
+
+// A body that gives up beyond a size would meet every clause, since want of memory is free.
+#[test]
+fn thousands_of_events_are_taken(rt: HostRuntime) -> Result<(), Fail> {
+    let alloc = rt.alloc();
+    let mut text = String::new(alloc);
+    for tick in 1..=3_000u32 {
+        text.push_str(format!(in alloc; "{tick} line 5\n")?.as_str())?;
+    }
+    let bytes = text.as_bytes();
+    if bytes.len() > 100_000 {
+        return Err("too long a text".into());
+    }
+    let script = read_script(alloc, bytes).ok().ok_or("no script")?;
+    assert_eq!(rt; script.events.as_slice().len(), 3_000);
+    Ok(())
+}

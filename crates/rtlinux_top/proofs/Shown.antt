@@ -1,5 +1,5 @@
 -- What is shown of a run without modules is the solution.
-use Rattle.std.proofs.Common.{◌≡◌, ◌≤◌, ℕ, zero, suc, refl, sym, ap, ◌∙◌, arith, true, false, List, [], ◌++◌, map}
+use Rattle.std.proofs.Common.{◌≡◌, ◌≤◌, ℕ, zero, suc, refl, sym, ap, ◌∙◌, arith, false, List, [], ◌++◌, map}
 use Rattle.memory_model.specs.Side.{Side}
 use Rattle.device_script.specs.declared.event.Event.{Event}
 use Rattle.line_kinds.specs.declared.kinds.GLine.{GLine}
@@ -18,7 +18,8 @@ use Rattle.priority_schedule.specs.Run.{real_time, real_after, real_lines, real_
 use Rattle.priority_schedule.specs.State.{RealTime}
 use Rattle.rt_core.specs.End.{quiet_end}
 use Rattle.run_files.specs.declared.run.AcceptedRun.{AcceptedRun}
-use Rattle.run_stream.specs.Lines.{guest_on, guest_lines, bare_at, shown_at, run_shown}
+use Rattle.run_files.specs.declared.run.Shown.TheVariants.{Both}
+use Rattle.run_stream.specs.Lines.{guest_on, guest_lines, bare_at, shown_at, lines_shown}
 use Rattle.run_stream.specs.Start.{guest_start}
 use Rattle.schedule_laws.specs.Laws.{IsSolution}
 use Rattle.rtlinux_top.specs.Solution.{quiet_start, real_shown, guest_shown}
@@ -61,7 +62,7 @@ shows_guest run =
     ∙ ap (λ (x : Bare). lines_to (guest_lines run) n ++ stamped n (bare_end x)) (after_same (guest_start run) run.script.events guest_on n d n)
 
 pub shows_output : (run : AcceptedRun)
-    → run_shown true run ≡ run_output false (guest_start run) (quiet_start run) run.script.events run.ticks (real_shown run) (calls_of (guest_shown run))
+    → lines_shown Both run ≡ run_output false (guest_start run) (quiet_start run) run.script.events run.ticks (real_shown run) (calls_of (guest_shown run))
 unfolding shown_at
 shows_output run =
     let n = run.ticks in
@@ -73,10 +74,10 @@ shows_output run =
     let ends = λ (m : RealTime) (x : Bare). stamped n (map R (real_end m) ++ map G (bare_end x)) in
     let both : ℕ → List Line = λ k. tick_lines false (real_lines start script [] k) (hardware_lines guest start script r [] k) (bare_lines guest script r k) in
     let lines : List (ℕ × Line) = lines_to both n in
-    let same : lines_to (shown_at true run) n ≡ lines = lines_to-same (shown_at true run) both n (λ k _.
+    let same : lines_to (shown_at Both run) n ≡ lines = lines_to-same (shown_at Both run) both n (λ k _.
     sym (ap (λ (ls : List RLine). tick_lines false ls [] (bare_lines guest script r k)) (real_lines_are start.side script k)
     ∙ ap (λ (ls : List GLine). tick_lines false (at_tick (suc k) guest_on) [] ls) (lines_same guest script guest_on n d k))) in
-    let quiet : run_shown true run ≡ run_output false guest start script n r [] =
+    let quiet : lines_shown Both run ≡ run_output false guest start script n r [] =
     ap (λ ls. ls ++ stamped n (map R (quiet_end d) ++ map G (bare_end (bare_at run n)))) same
     ∙ ap (λ (x : RealTime). lines ++ ends x (bare_at run n)) (sym (real_after_is start.side script n))
     ∙ ap (λ (x : Bare). lines ++ ends (real_after start script [] n) x) (sym (after_same guest script guest_on n d n)) in

@@ -2,7 +2,7 @@ pub mod Status
 pub mod Words
 pub mod Verdict
 pub mod Run
-pub mod Request
-pub mod Causes
+pub mod Answers
+pub mod Course
 pub mod Last
 pub mod Solution

@@ -2,8 +2,9 @@
 use Rattle.std.specs.Prelude.{ℕ, List, [], ◌++◌, length, drop}
 use Rattle.flat_memory.specs.Zeros.{zeros}
 use Rattle.run_files.specs.declared.run.AcceptedRun.{AcceptedRun}
-use Rattle.run_memory.specs.declared.sides.Sides.{Sides}
-use Rattle.run_memory.specs.Stub.{stub_stored}
+use Rattle.run_files.specs.declared.run.Shown.TheVariants.{Guest}
+use Rattle.run_files.specs.declared.sides.Sides.{Sides}
+use Rattle.run_files.specs.Stub.{stub_stored}
 
 -- what `flat` starts: two sides of 65,536 bytes, the image at address 0 with zeros behind it, the stub on the other side, and the entry 0
 unfoldable pub flat_sides : List ℕ → Sides
@@ -12,6 +13,6 @@ flat_sides image = record {
   entry = 0;
 }
 
--- its run, without a script
+-- its run, without a script, of which the guest's lines are shown
 abbrev pub flat_run : List ℕ → ℕ → AcceptedRun
-flat_run image ticks = record { sides = flat_sides image; script = record { events = [] }; ticks = ticks }
+flat_run image ticks = record { sides = flat_sides image; script = record { events = [] }; ticks = ticks; shown = Guest }

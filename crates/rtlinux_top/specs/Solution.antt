@@ -1,5 +1,5 @@
 -- A run of a system without modules: its start on the real-time side, the lines of both halves, and that they are the one solution.
-use Rattle.std.specs.Prelude.{◌≡◌, ◌≤◌, ◌-◌, ℕ, Bool, false, true, List, [], ◌++◌, length, map, take, if◌then◌else◌, Option, Ok, Err}
+use Rattle.std.specs.Prelude.{◌≡◌, ◌≤◌, ◌-◌, ℕ, false, List, [], ◌++◌, length, map, take, Option, Ok, Err}
 use Rattle.outside_io.specs.Sink.{appended}
 use Rattle.line_kinds.specs.declared.kinds.GLine.{GLine}
 use Rattle.line_kinds.specs.declared.kinds.Line.{Line}
@@ -12,8 +12,10 @@ use Rattle.bare_machine.specs.Run.{bare, bare_end}
 use Rattle.priority_schedule.specs.State.{RealTimeStart}
 use Rattle.rt_core.specs.End.{quiet_end}
 use Rattle.run_files.specs.declared.run.AcceptedRun.{AcceptedRun}
+use Rattle.run_files.specs.declared.run.Shown.{Shown}
+use Rattle.run_files.specs.declared.run.Shown.TheVariants.{Guest, Both}
 use Rattle.run_files.specs.Verdict.{Verdict}
-use Rattle.run_stream.specs.Lines.{guest_on, guest_lines, bare_at, run_shown, text_of}
+use Rattle.run_stream.specs.Lines.{guest_on, guest_lines, bare_at, lines_shown, text_of}
 use Rattle.run_stream.specs.Start.{guest_start}
 use Rattle.schedule_laws.specs.Laws.{IsSolution}
 
@@ -50,20 +52,20 @@ ShowsGuest =
 abbrev pub ShowsOutput : Type 0
 ShowsOutput =
     (run : AcceptedRun)
-    → run_shown true run ≡ run_output false (guest_start run) (quiet_start run) run.script.events run.ticks (real_shown run) (calls_of (guest_shown run))
+    → lines_shown Both run ≡ run_output false (guest_start run) (quiet_start run) run.script.events run.ticks (real_shown run) (calls_of (guest_shown run))
 
 -- the guest's lines alone, without the last one, which is the digest of its side
 abbrev pub guest_alone : List (ℕ × GLine) → List (ℕ × Line)
 guest_alone lines = map (λ (line : ℕ × GLine). (line.0, G line.1)) (take (length lines - 1) lines)
 
--- what is shown of a pair of lines: the output of both machines, or the guest's lines alone
-abbrev pub shown_of : Bool → AcceptedRun → List (ℕ × GLine) → List (ℕ × RLine) → List (ℕ × Line)
-shown_of both run g r =
-    if both then run_output false (guest_start run) (quiet_start run) run.script.events run.ticks r (calls_of g) else guest_alone g
+-- what is shown of a pair of lines: the guest's lines alone, or the output of both machines
+abbrev pub shown_of : Shown → AcceptedRun → List (ℕ × GLine) → List (ℕ × RLine) → List (ℕ × Line)
+shown_of Guest run g r = guest_alone g
+shown_of Both run g r = run_output false (guest_start run) (quiet_start run) run.script.events run.ticks r (calls_of g)
 
 -- what was written for an accepted run is the text of what is shown of the one pair of lines that meets both equations
-abbrev pub WritesSolution : Bool → Verdict → Option (List ℕ) → Option (List ℕ) → Type 0
-WritesSolution both (Ok run) old new =
+abbrev pub WritesSolution : Verdict → Option (List ℕ) → Option (List ℕ) → Type 0
+WritesSolution (Ok run) old new =
     (g : List (ℕ × GLine)) × ((r : List (ℕ × RLine)) × (IsSolution (guest_start run) (quiet_start run) run.script.events run.ticks g r
-    × (new ≡ appended old (text_of (shown_of both run g r)))))
-WritesSolution both (Err about) old new = Unit {0}
+    × (new ≡ appended old (text_of (shown_of run.shown run g r)))))
+WritesSolution (Err about) old new = Unit {0}

@@ -1,12 +1,11 @@
 -- What is to be answered and written, from the words and from what each name holds.
-use Rattle.std.specs.Prelude.{ℕ, List, [], length, nat_lt, Bool, true, false, if◌then◌else◌, Option, Some, None, Result, Ok, Err}
+use Rattle.std.specs.Prelude.{ℕ, List, [], length, nat_lt, true, false, if◌then◌else◌, Option, Some, None, Result, Ok, Err}
 use Rattle.outside_io.specs.Store.{Files}
-use Rattle.command_words.specs.Values.{ticks_of}
 use Rattle.run_files.specs.declared.cause.Cause.{Cause}
 use Rattle.run_files.specs.declared.cause.Cause.TheVariants as cause
 use Rattle.run_files.specs.declared.run.AcceptedRun.{AcceptedRun}
 use Rattle.run_files.specs.Line.{refusal_text}
-use Rattle.run_files.specs.Verdict.{Verdict, made, named, run_verdict}
+use Rattle.run_files.specs.Verdict.{About, Verdict, ◌>>=◌, made_of_file, ticks_in, run_ticks, run_verdict}
 use Rattle.rtlinux_top.specs.declared.status.Status.{Status}
 use Rattle.rtlinux_top.specs.declared.status.Status.TheVariants.{Done, Refused, Outside, Breach, Usage}
 use Rattle.rtlinux_top.specs.declared.status.Device.TheVariants.{Read}
@@ -18,22 +17,17 @@ use Rattle.rtlinux_top.specs.Words.{Asked, Unknown, Flat, System}
 abbrev pub flat_in : ℕ → List ℕ → Result AcceptedRun Cause
 flat_in ticks bytes = if nat_lt 65536 (length bytes) then Err cause.Outside else Ok (flat_run bytes ticks)
 
--- the ticks come before the image
-abbrev pub flat_ticks : List ℕ → List ℕ → Option ℕ → Files → Verdict
-flat_ticks image word None files = Err (cause.Ticks, word)
-flat_ticks image word (Some ticks) files = named image (made (flat_in ticks) (files image))
+-- what the words alone come to: the ticks, or the first refusal
+abbrev pub asked_ticks : Asked → Result ℕ About
+asked_ticks Unknown = Err (cause.Words, [])
+asked_ticks (Flat image word) = ticks_in word
+asked_ticks (System run) = run_ticks (Some run)
 
 -- the run that is accepted, or the first refusal in the order of the words, the ticks and the files
 unfoldable pub verdict_of : Asked → Files → Verdict
 verdict_of Unknown files = Err (cause.Words, [])
-verdict_of (Flat image word) files = flat_ticks image word (ticks_of word) files
+verdict_of (Flat image word) files = ticks_in word >>= λ ticks. made_of_file (flat_in ticks) files image
 verdict_of (System run) files = run_verdict (Some run) files
-
--- `run` shows the lines of both halves, `flat` the guest's
-abbrev pub shows_both : Asked → Bool
-shows_both Unknown = false
-shows_both (Flat image word) = false
-shows_both (System run) = true
 
 abbrev pub refused : ℕ → ℕ → Status
 refused number part = Refused (record { number = number; part = part })
@@ -52,11 +46,11 @@ status_by cause.Overlap = refused 22 0
 status_by (cause.Line line) = refused 30 0
 
 -- the answer to a verdict
-abbrev pub status_of : Bool → Verdict → Status
-status_of both (Err about) = status_by about.0
-status_of both (Ok run) = if has_breach (run_shown both run) then Breach else Done
+abbrev pub status_of : Verdict → Status
+status_of (Err about) = status_by about.0
+status_of (Ok run) = if has_breach (run_shown run) then Breach else Done
 
 -- what is written for a verdict
-abbrev pub output_of : Bool → Verdict → List ℕ
-output_of both (Err about) = refusal_text about.0 about.1
-output_of both (Ok run) = text_of (run_shown both run)
+abbrev pub output_of : Verdict → List ℕ
+output_of (Err about) = refusal_text about.0 about.1
+output_of (Ok run) = text_of (run_shown run)

@@ -32,3 +32,7 @@ asked_of (command ∷ words) =
 -- the bytes of each word
 abbrev pub texts : List (String Global) → List (List ℕ)
 texts words = map string_bytes words
+
+-- what the words of the command line ask for
+abbrev pub command_of : List (String Global) → Asked
+command_of words = asked_of (texts words)

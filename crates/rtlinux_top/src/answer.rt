@@ -3,20 +3,20 @@ ghost use Rattle.std.specs.Prelude.{◌≡◌, ◌≢◌, ◌<◌, ◌⊎◌, If
 ghost use Rattle.outside_io.specs.Causes.{Rose};
 ghost use Rattle.outside_io.specs.Sink.{appended};
 ghost use Rattle.run_files.specs.Line.{refusal_text};
-ghost use Rattle.rtlinux_top.specs.Status.{IsDetermined, HasRun};
-ghost use Rattle.rtlinux_top.specs.Words.{asked_of, texts, Unknown};
-ghost use Rattle.rtlinux_top.specs.Verdict.{verdict_of, shows_both, status_of, output_of, refused as refused_of};
-ghost use Rattle.rtlinux_top.specs.Causes.{ReadFailed, RefusesTicks, AnsweredEarly};
-ghost use Rattle.run_stream.specs.Writes.{AppendsPart};
-ghost use Rattle.rtlinux_top.specs.Last.{KeepsRun};
+ghost use Rattle.run_files.specs.declared.run.AcceptedRun.{AcceptedRun};
+ghost use Rattle.rtlinux_top.specs.Answers.{AnswersTo, AnswersWords, RefusesTicks, ReadFailed, WritesPart, WritesPartOfLine, Runs};
+ghost use Rattle.rtlinux_top.specs.Course.{IsCourse};
 ghost use Rattle.rtlinux_top.specs.Solution.{WritesSolution};
+ghost use Rattle.rtlinux_top.specs.Status.{IsDetermined, HasRun};
+ghost use Rattle.rtlinux_top.specs.Verdict.{verdict_of, refused as refused_of};
+ghost use Rattle.rtlinux_top.specs.Words.{command_of, Unknown};
 
 use crate::last::Last;
-use crate::request::{Request, read_request};
+use crate::request::read_request;
 use crate::run::run_accepted;
 use crate::status::{Device, Status, status_by};
 use outside_io::{Sink, Store};
-use run_files::Cause;
+use run_files::{Cause, Refusal, refusal_line};
 use std::alloc::Global;
 
 // The answer to the words, with what is written.
@@ -27,32 +27,31 @@ fn answer<S: Store, K: Sink>(
     sink: &mut K,
     last: &mut Last,
 ) -> Status
-    ensures told { IsDetermined result → IfSome (S.held store.old) (λ files. let asked = asked_of (texts words.now.items) in (result ≡ status_of (shows_both asked) (verdict_of asked files)) × (K.written sink.new ≡ appended (K.written sink.old) (output_of (shows_both asked) (verdict_of asked files)))) }
-    ensures complete { IfSome (S.held store.old) (λ files. ¬ Rose (S.faults store.old) (S.faults store.new) → ¬ Rose (K.faults sink.old) (K.faults sink.new) → result ≢ Status.NoMemory → let asked = asked_of (texts words.now.items) in (result ≡ status_of (shows_both asked) (verdict_of asked files)) × (K.written sink.new ≡ appended (K.written sink.old) (output_of (shows_both asked) (verdict_of asked files)))) }
-    ensures early { IsDetermined result → AnsweredEarly (asked_of (texts words.now.items)) result }
-    ensures usage { result ≡ Status.Usage → asked_of (texts words.now.items) ≡ Unknown }
-    ensures ticks { result ≡ refused_of 40 0 → RefusesTicks (asked_of (texts words.now.items)) }
-    ensures read { result ≡ Status.Outside Device.Read → ReadFailed (asked_of (texts words.now.items)) (S.held store.old) (S.faults store.old) (S.faults store.new) (S.failed_last store.new) }
-    ensures read_text { result ≡ Status.Outside Device.Read → K.written sink.new ≡ appended (K.written sink.old) (refusal_text Cause.Read (S.failed_last store.new)) }
-    ensures write { result ≡ Status.Outside Device.Write → Rose (K.faults sink.old) (K.faults sink.new) }
-    ensures sink_fault { K.faults sink.old < K.faults sink.new → result ≡ Status.Outside Device.Write }
-    ensures store_fault { S.faults store.old < S.faults store.new → (result ≡ Status.Outside Device.Read) ⊎ (result ≡ Status.Outside Device.Write) }
-    ensures after_write { IfSome (S.held store.old) (λ files. result ≡ Status.Outside Device.Write → let asked = asked_of (texts words.now.items) in AppendsPart (K.written sink.old) (K.written sink.new) (output_of (shows_both asked) (verdict_of asked files)) ⊎ (ReadFailed asked (S.held store.old) (S.faults store.old) (S.faults store.new) (S.failed_last store.new) × AppendsPart (K.written sink.old) (K.written sink.new) (refusal_text Cause.Read (S.failed_last store.new)))) }
-    ensures memory { result ≡ Status.NoMemory → K.written sink.new ≡ K.written sink.old }
-    ensures no_rt_fault { result ≢ Status.RtFault }
-    ensures kept { HasRun result → IfSome (S.held store.old) (λ files. KeepsRun (verdict_of (asked_of (texts words.now.items)) files) last.new) }
-    ensures dropped { ¬ HasRun result → last.new ≡ Last.Nothing }
+    ensures course {
+        IsCourse (command_of words.now.items) (S.held store.old) (S.faults store.old) (S.faults store.new) (S.failed_last store.new)
+            (K.written sink.old) (K.written sink.new) (K.faults sink.old) (K.faults sink.new) last.new result
+    }
+    ensures kept {
+        HasRun result → (run : AcceptedRun) × Runs (command_of words.now.items) (S.held store.old) result
+            (K.written sink.old) (K.written sink.new) last.new run
+    }
+    ensures after_write {
+        result ≡ Status.Outside Device.Write → IfSome (S.held store.old) (λ files.
+            WritesPart (command_of words.now.items) files (K.written sink.old) (K.written sink.new)
+            ⊎ (ReadFailed (command_of words.now.items) (S.held store.old) (S.faults store.old) (S.faults store.new) (S.failed_last store.new)
+                × WritesPartOfLine (S.failed_last store.new) (K.written sink.old) (K.written sink.new)))
+    }
 {
     match read_request(alloc, words.as_slice(), store) {
-        Request::Run(run, both) => run_accepted(alloc, run, both, sink, last),
-        Request::Refuse(cause, line) => {
+        Ok(run) => run_accepted(alloc, run, sink, last),
+        Err(Refusal::Because(cause, subject)) => {
             *last = Last::Nothing;
-            match sink.put(line.as_bytes()) {
+            match sink.put(refusal_line(cause, subject.as_slice()).as_bytes()) {
                 Ok(()) => status_by(cause),
                 Err(_) => Status::Outside(Device::Write),
             }
         }
-        Request::NoMemory => {
+        Err(Refusal::NoMemory) => {
             *last = Last::Nothing;
             Status::NoMemory
         }
@@ -74,31 +73,56 @@ pub fn rtlinux<S: Store, K: Sink>(
 ) -> Status
     // The headline: the guest's lines that `run` writes are those of the bare machine on the image beside the real-time lines, and these are
     // those of the priority schedule beside the guest's calls. One pair of lines meets both.
-    ensures headline { IsDetermined result → IfSome (S.held store.old) (λ files. let asked = asked_of (texts words.now.items) in WritesSolution (shows_both asked) (verdict_of asked files) (K.written sink.old) (K.written sink.new)) }
+    ensures headline {
+        IsDetermined result → IfSome (S.held store.old) (λ files.
+            WritesSolution (verdict_of (command_of words.now.items) files) (K.written sink.old) (K.written sink.new))
+    }
 
     // What the words and the files determine: the answer, and all that is written.
-    ensures told { IsDetermined result → IfSome (S.held store.old) (λ files. let asked = asked_of (texts words.now.items) in (result ≡ status_of (shows_both asked) (verdict_of asked files)) × (K.written sink.new ≡ appended (K.written sink.old) (output_of (shows_both asked) (verdict_of asked files)))) }
-    ensures complete { IfSome (S.held store.old) (λ files. ¬ Rose (S.faults store.old) (S.faults store.new) → ¬ Rose (K.faults sink.old) (K.faults sink.new) → result ≢ Status.NoMemory → let asked = asked_of (texts words.now.items) in (result ≡ status_of (shows_both asked) (verdict_of asked files)) × (K.written sink.new ≡ appended (K.written sink.old) (output_of (shows_both asked) (verdict_of asked files)))) }
+    ensures told {
+        IsDetermined result → AnswersTo (command_of words.now.items) (S.held store.old) result (K.written sink.old) (K.written sink.new)
+    }
+    ensures complete {
+        ¬ Rose (S.faults store.old) (S.faults store.new) → ¬ Rose (K.faults sink.old) (K.faults sink.new) → result ≢ Status.NoMemory
+        → AnswersTo (command_of words.now.items) (S.held store.old) result (K.written sink.old) (K.written sink.new)
+    }
 
-    // What the words alone determine, whatever the store tells.
-    ensures early { IsDetermined result → AnsweredEarly (asked_of (texts words.now.items)) result }
-    ensures usage { result ≡ Status.Usage → asked_of (texts words.now.items) ≡ Unknown }
-    ensures ticks { result ≡ refused_of 40 0 → RefusesTicks (asked_of (texts words.now.items)) }
+    // What the words alone determine, whatever the store tells: refused words and ticks, with their lines.
+    ensures early { IsDetermined result → AnswersWords (command_of words.now.items) result (K.written sink.old) (K.written sink.new) }
+    ensures usage { result ≡ Status.Usage → command_of words.now.items ≡ Unknown }
+    ensures ticks { result ≡ refused_of 40 0 → RefusesTicks (command_of words.now.items) }
 
     // A fault outside comes only where its count rose, and none is passed over.
-    ensures read { result ≡ Status.Outside Device.Read → ReadFailed (asked_of (texts words.now.items)) (S.held store.old) (S.faults store.old) (S.faults store.new) (S.failed_last store.new) }
-    ensures read_text { result ≡ Status.Outside Device.Read → K.written sink.new ≡ appended (K.written sink.old) (refusal_text Cause.Read (S.failed_last store.new)) }
+    ensures read {
+        result ≡ Status.Outside Device.Read
+        → ReadFailed (command_of words.now.items) (S.held store.old) (S.faults store.old) (S.faults store.new) (S.failed_last store.new)
+    }
+    ensures read_text {
+        result ≡ Status.Outside Device.Read
+        → K.written sink.new ≡ appended (K.written sink.old) (refusal_text Cause.Read (S.failed_last store.new))
+    }
     ensures write { result ≡ Status.Outside Device.Write → Rose (K.faults sink.old) (K.faults sink.new) }
     ensures sink_fault { K.faults sink.old < K.faults sink.new → result ≡ Status.Outside Device.Write }
-    ensures store_fault { S.faults store.old < S.faults store.new → (result ≡ Status.Outside Device.Read) ⊎ (result ≡ Status.Outside Device.Write) }
-    ensures after_write { IfSome (S.held store.old) (λ files. result ≡ Status.Outside Device.Write → let asked = asked_of (texts words.now.items) in AppendsPart (K.written sink.old) (K.written sink.new) (output_of (shows_both asked) (verdict_of asked files)) ⊎ (ReadFailed asked (S.held store.old) (S.faults store.old) (S.faults store.new) (S.failed_last store.new) × AppendsPart (K.written sink.old) (K.written sink.new) (refusal_text Cause.Read (S.failed_last store.new)))) }
+    ensures store_fault {
+        S.faults store.old < S.faults store.new → (result ≡ Status.Outside Device.Read) ⊎ (result ≡ Status.Outside Device.Write)
+    }
+    // After a failed put a first part of the output was written, or of the line of a file that couldn't be read.
+    ensures after_write {
+        result ≡ Status.Outside Device.Write → IfSome (S.held store.old) (λ files.
+            WritesPart (command_of words.now.items) files (K.written sink.old) (K.written sink.new)
+            ⊎ (ReadFailed (command_of words.now.items) (S.held store.old) (S.faults store.old) (S.faults store.new) (S.failed_last store.new)
+                × WritesPartOfLine (S.failed_last store.new) (K.written sink.old) (K.written sink.new)))
+    }
 
     // Want of memory writes nothing, and no real-time activity is there to fault.
     ensures memory { result ≡ Status.NoMemory → K.written sink.new ≡ K.written sink.old }
     ensures no_rt_fault { result ≢ Status.RtFault }
 
-    // The machine that ran.
-    ensures kept { HasRun result → IfSome (S.held store.old) (λ files. KeepsRun (verdict_of (asked_of (texts words.now.items)) files) last.new) }
+    // The run of such an answer, whatever the store tells, and its machine.
+    ensures kept {
+        HasRun result → (run : AcceptedRun) × Runs (command_of words.now.items) (S.held store.old) result
+            (K.written sink.old) (K.written sink.new) last.new run
+    }
     ensures dropped { ¬ HasRun result → last.new ≡ Last.Nothing }
 {
     answer(alloc, words, store, sink, last)

@@ -4,7 +4,7 @@ ghost use Rattle.rtlinux_top.specs.Run.{flat_sides as sides_of};
 
 use flat_memory::FlatMemory;
 use outside_io::NoMemory;
-use run_memory::{Sides, store_stub};
+use run_files::{Sides, store_stub};
 use std::alloc::Global;
 
 /// How many bytes each side has, and so the most bytes of an image that is run flat.

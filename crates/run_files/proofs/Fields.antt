@@ -8,7 +8,10 @@ use Rattle.system_file.specs.Fields.{required, optional, size_of, is_size, name_
 use Rattle.system_file.specs.Read.{document_of}
 use Rattle.run_files.specs.declared.cause.Refusal.{Refusal}
 use Rattle.outside_io.specs.Names.{is_name, IsName}
-use Rattle.run_files.specs.Files.{Accepts, IsAccepted, system_in, members_in, fields_in, alone}
+use Rattle.run_files.specs.Refusal.{Accepts}
+use Rattle.run_files.specs.Verdict.{about}
+use Rattle.run_files.specs.declared.cause.Cause.{Cause}
+use Rattle.run_files.specs.Files.{IsAccepted, system_in, members_in, fields_in, alone}
 
 required_good : {A : Type 0} (P : A → Type 0) (read : Data → Option A) (o : Option Data) (x : A) → ((d : Data) (y : A) → read d ≡ Some y → P y) → required read o ≡ Some x → P x
 required_good P read None x good same = absurd cc
@@ -132,7 +135,11 @@ in_members : (o : Option Members) (s : System) → members_in o ≡ Ok s → IsA
 in_members None s same = absurd cc
 in_members (Some ms) s same = in_fields (system_of ms) s (λ t is. system_keeps ms t is) same
 
-pub accepted_keeps : (bytes : List ℕ) (result : Result System Refusal) → Accepts result (system_in bytes) → IfOk result IsAccepted
+unnamed : (name : List ℕ) (made : Result System Cause) (s : System) → about name made ≡ Ok s → made ≡ Ok s
+unnamed name (Ok t) s same = cc
+unnamed name (Err why) s same = absurd cc
+
+pub accepted_keeps : (name bytes : List ℕ) (result : Result System Refusal) → Accepts result (about name (system_in bytes)) → IfOk result IsAccepted
 unfolding system_in
-accepted_keeps bytes (Ok s) same = in_members (document_of bytes) s same
-accepted_keeps bytes (Err refusal) same = tt
+accepted_keeps name bytes (Ok s) same = in_members (document_of bytes) s (unnamed name (members_in (document_of bytes)) s same)
+accepted_keeps name bytes (Err refusal) same = tt

@@ -1,5 +1,5 @@
 -- The files of a run: what the bytes of each make, or why they are refused.
-use Rattle.std.specs.Prelude.{◌≡◌, ◌≢◌, ◌≤◌, ◌^◌, ℕ, List, [], ◌∷◌, IfSome, Option, Some, None, Result, Ok, Err}
+use Rattle.std.specs.Prelude.{◌≡◌, ◌≤◌, ◌^◌, ℕ, List, [], ◌∷◌, IfSome, Option, Some, None, Result, Ok, Err}
 use Rattle.outside_io.specs.Names.{IsName}
 use Rattle.toml.specs.Data.{Members}
 use Rattle.system_file.specs.declared.system.System.{System}
@@ -7,16 +7,14 @@ use Rattle.system_file.specs.Fields.{system_of}
 use Rattle.system_file.specs.Read.{document_of}
 use Rattle.elf_loader.specs.declared.image.Image.{Image}
 use Rattle.elf_loader.specs.File.{image_of}
-use Rattle.run_memory.specs.declared.sides.Sides.{Sides}
-use Rattle.run_memory.specs.Guest.{Misfit, PartOutside, PartsOverlap}
-use Rattle.run_memory.specs.Sides.{sides_of}
+use Rattle.run_files.specs.declared.sides.Sides.{Sides}
+use Rattle.run_files.specs.Guest.{Misfit, PartOutside, PartsOverlap}
+use Rattle.run_files.specs.Sides.{sides_of}
 use Rattle.device_script.specs.declared.script.Script.{Script}
 use Rattle.device_script.specs.Event.{Events}
 use Rattle.device_script.specs.Script.{script_of}
 use Rattle.run_files.specs.declared.cause.Cause.{Cause}
 use Rattle.run_files.specs.declared.cause.Cause.TheVariants as cause
-use Rattle.run_files.specs.declared.cause.Refusal.{Refusal}
-use Rattle.run_files.specs.declared.cause.Refusal.TheVariants.{Because, NoMemory}
 
 -- the most bytes of a file: 33,554,432
 abbrev pub file_limit : ℕ
@@ -79,13 +77,3 @@ events_in (Err line) = Err (cause.Line line)
 
 unfoldable pub script_in : List ℕ → Result Script Cause
 script_in bytes = events_in (script_of bytes)
-
--- what is made of a file, unless memory is refused
-abbrev pub Accepts : {A : Type 0} → Result A Refusal → Result A Cause → Type 0
-Accepts (Ok made) wanted = wanted ≡ Ok made
-Accepts (Err (Because why)) wanted = wanted ≡ Err why
-Accepts (Err NoMemory) wanted = Unit {0}
-
--- what bytes are refused for is never the words, the ticks, or a reading that failed
-abbrev pub BlamesBytes : {A : Type 0} → Result A Refusal → Type 0
-BlamesBytes result = (result ≢ Err (Because cause.Read)) × (result ≢ Err (Because cause.Words)) × (result ≢ Err (Because cause.Ticks))

@@ -1,3 +1,7 @@
 pub mod Files
+pub mod Guest
 pub mod Line
+pub mod Refusal
+pub mod Sides
+pub mod Stub
 pub mod Verdict

@@ -5,9 +5,10 @@ use Rattle.outside_io.specs.Store.{Files}
 use Rattle.command_words.specs.Values.{ticks_of}
 use Rattle.command_words.specs.Run.{AskedRun}
 use Rattle.system_file.specs.declared.system.System.{System}
-use Rattle.run_memory.specs.declared.sides.Sides.{Sides}
+use Rattle.run_files.specs.declared.sides.Sides.{Sides}
 use Rattle.device_script.specs.declared.script.Script.{Script}
 use Rattle.run_files.specs.declared.run.AcceptedRun.{AcceptedRun}
+use Rattle.run_files.specs.declared.run.Shown.TheVariants.{Both}
 use Rattle.run_files.specs.declared.cause.Cause.{Cause}
 use Rattle.run_files.specs.declared.cause.Cause.TheVariants as cause
 use Rattle.run_files.specs.Files.{file_limit, system_in, sides_in, script_in}
@@ -24,49 +25,54 @@ abbrev pub ◌>>=◌ : {A B E : Type 0} → Result A E → (A → Result B E) �
 (Ok x) >>= f = f x
 (Err e) >>= f = Err e
 
-abbrev pub named : {A : Type 0} → List ℕ → Result A Cause → Result A About
-named name (Ok x) = Ok x
-named name (Err why) = Err (why, name)
+-- a cause is about this name
+abbrev pub about : {A : Type 0} → List ℕ → Result A Cause → Result A About
+about name (Ok x) = Ok x
+about name (Err why) = Err (why, name)
 
--- the bytes of a file, which are no more than the limit
-abbrev pub content_of : Option (List ℕ) → Result (List ℕ) Cause
-content_of None = Err cause.Read
-content_of (Some bytes) = if nat_lt file_limit (length bytes) then Err cause.TooLarge else Ok bytes
-
--- what is made of a file, by what its name holds
-abbrev pub made : {A : Type 0} → (List ℕ → Result A Cause) → Option (List ℕ) → Result A Cause
-made make held = content_of held >>= make
+-- the bytes that a name holds, which are no more than the limit
+abbrev pub bytes_held : Option (List ℕ) → Result (List ℕ) Cause
+bytes_held None = Err cause.Read
+bytes_held (Some bytes) = if nat_lt file_limit (length bytes) then Err cause.TooLarge else Ok bytes
 
 -- what is made of the file with a name
-abbrev pub taken : {A : Type 0} → (List ℕ → Result A Cause) → Files → List ℕ → Result A About
-taken make files name = named name (made make (files name))
+abbrev pub made_of_file : {A : Type 0} → (List ℕ → Result A Cause) → Files → List ℕ → Result A About
+made_of_file make files name = about name (bytes_held (files name) >>= make)
 
 -- no script is a script without events
 abbrev pub script_named : Files → Option (List ℕ) → Result Script About
 script_named files None = Ok (record { events = [] })
-script_named files (Some name) = taken script_in files name
+script_named files (Some name) = made_of_file script_in files name
 
--- the script, and with it the run
+-- the script, and with it the run, of which both halves are shown
 abbrev pub script_verdict : Option (List ℕ) → Sides → ℕ → Files → Verdict
 script_verdict name sides ticks files =
-    script_named files name >>= λ script. Ok (record { sides = sides; script = script; ticks = ticks })
+    script_named files name >>= λ script. Ok (record { sides = sides; script = script; ticks = ticks; shown = Both })
 
 -- the image, and then the script
 abbrev pub image_verdict : System → ℕ → Files → Verdict
 image_verdict system ticks files =
-    taken (sides_in system) files system.image >>= λ sides. script_verdict system.script sides ticks files
+    made_of_file (sides_in system) files system.image >>= λ sides. script_verdict system.script sides ticks files
 
 -- the system file, and then the image
 unfoldable pub system_verdict : List ℕ → ℕ → Files → Verdict
 system_verdict name ticks files =
-    taken system_in files name >>= λ system. image_verdict system ticks files
+    made_of_file system_in files name >>= λ system. image_verdict system ticks files
 
--- the ticks come before the files
-abbrev pub ticks_verdict : AskedRun → Option ℕ → Files → Verdict
-ticks_verdict run None files = Err (cause.Ticks, run.ticks)
-ticks_verdict run (Some ticks) files = system_verdict run.system ticks files
+-- the ticks that a word says, or their refusal
+abbrev pub ticks_said : List ℕ → Option ℕ → Result ℕ About
+ticks_said word None = Err (cause.Ticks, word)
+ticks_said word (Some ticks) = Ok ticks
 
--- the words come first
+abbrev pub ticks_in : List ℕ → Result ℕ About
+ticks_in word = ticks_said word (ticks_of word)
+
+-- what the words alone come to: the ticks, or the first refusal
+abbrev pub run_ticks : Option AskedRun → Result ℕ About
+run_ticks None = Err (cause.Words, [])
+run_ticks (Some run) = ticks_in run.ticks
+
+-- the words come first, then the ticks, then the files
 abbrev pub run_verdict : Option AskedRun → Files → Verdict
 run_verdict None files = Err (cause.Words, [])
-run_verdict (Some run) files = ticks_verdict run (ticks_of run.ticks) files
+run_verdict (Some run) files = ticks_in run.ticks >>= λ ticks. system_verdict run.system ticks files

@@ -1,4 +1,8 @@
 // Why a run is refused.
+ghost use Rattle.std.specs.Prelude.{◌≡◌, ◌≤◌, length};
+
+use outside_io::LastName;
+use std::marker::Model;
 
 /// Why the words, the ticks or a file are refused.
 #[derive(Clone, Copy, Debug, PartialEq, Eq)]
@@ -25,11 +29,55 @@ pub enum Cause {
     Line(u32),
 }
 
-/// Why a file isn't taken.
-#[derive(Clone, Copy, Debug, PartialEq, Eq)]
+/// What a refusal is about: the name of a file, or the word of the ticks, or nothing. Contracts see its bytes, at most 255.
+#[derive(Drop)]
+pub struct Subject {
+    name: LastName,
+}
+
+impl Model for Subject {
+    ghost use Rattle.std.specs.Prelude.{◌≤◌, List, ℕ, length};
+
+    ghost Value = { List ℕ };
+
+    ghost view = { λ s. s.name };
+
+    ghost invariant = { λ s. length s.name ≤ 255 };
+}
+
+impl Subject {
+    /// This name or word.
+    pub fn new(name: &[u8]) -> Subject
+        requires { length name.now ≤ 255 }
+        ensures { result ≡ name.now }
+    {
+        let mut kept = LastName::new();
+        kept.keep(name);
+        Subject { name: kept }
+    }
+
+    /// Its bytes.
+    pub fn as_slice(&self) -> &[u8]
+        ensures bytes { result.now ≡ self.now }
+        ensures short { length result.now ≤ 255 }
+    {
+        self.name.as_slice()
+    }
+}
+
+/// Why there is no run, or no part of it.
+#[derive(Drop)]
 pub enum Refusal {
-    /// The file is refused.
-    Because(Cause),
+    /// The words, the ticks or a file are refused, for this cause.
+    Because(Cause, Subject),
     /// Memory was refused.
     NoMemory,
+}
+
+/// The refusal for a cause, with the name or the word that it is about.
+pub fn refused(cause: Cause, name: &[u8]) -> Refusal
+    requires { length name.now ≤ 255 }
+    ensures { result ≡ Refusal.Because cause name.now }
+{
+    Refusal::Because(cause, Subject::new(name))
 }

@@ -1,14 +1,19 @@
-//! What `run` comes to before anything runs: the first cause of a refusal, in the order of the words, the ticks, the system
-//! file, the image and the script, or else the sides, the script and the ticks of the run. Files are bytes here; who
-//! fetches them stands above.
+//! What `run` comes to before anything runs: what each file holds, or why it is refused; both sides of memory with the image on the
+//! guest's and the stub on the other; and the line of a refusal. Files are bytes here; who fetches them stands above.
 #![tactic(auto)]
 
 mod accept;
 mod cause;
+mod image;
 mod line;
 mod run;
+mod sides;
+mod stub;
 
 pub use accept::{FILE_LIMIT, accept_image, accept_script, accept_system};
-pub use cause::{Cause, Refusal};
+pub use cause::{Cause, Refusal, Subject, refused};
+pub use image::place_image;
 pub use line::refusal_line;
-pub use run::AcceptedRun;
+pub use run::{AcceptedRun, Shown};
+pub use sides::{Sides, make_sides};
+pub use stub::{STACK_SIZE, STUB, STUB_ROOM, reserved_spans, store_stub};

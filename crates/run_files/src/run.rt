@@ -1,7 +1,16 @@
 // A run that is accepted.
 
+use crate::sides::Sides;
 use device_script::Script;
-use run_memory::Sides;
+
+/// Which lines of a run are written.
+#[derive(Clone, Copy, Debug, PartialEq, Eq)]
+pub enum Shown {
+    /// The guest's lines, and its first end line.
+    Guest,
+    /// The lines of both halves, and all end lines.
+    Both,
+}
 
 /// All that a run starts from.
 #[derive(Drop)]
@@ -12,4 +21,6 @@ pub struct AcceptedRun {
     pub script: Script,
     /// How many ticks are run.
     pub ticks: u32,
+    /// Which lines are written.
+    pub shown: Shown,
 }

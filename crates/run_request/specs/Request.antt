@@ -1,28 +1,39 @@
--- When each answer to the words comes, as far as the words alone say it.
-use Rattle.std.specs.Prelude.{◌≡◌, ℕ, List, Option, Some, None, IfSome}
+-- How the words decide an answer before any file is fetched.
+use Rattle.std.specs.Prelude.{◌≡◌, ℕ, List, Option, Some, None, Result, Ok, Err, IfSome}
 use Rattle.outside_io.specs.Store.{Files}
-use Rattle.command_words.specs.Values.{ticks_of}
 use Rattle.command_words.specs.Run.{AskedRun}
 use Rattle.run_files.specs.declared.cause.Cause.{Cause}
-use Rattle.run_files.specs.declared.cause.Cause.TheVariants.{Words, Ticks}
+use Rattle.run_files.specs.declared.cause.Cause.TheVariants as cause
+use Rattle.run_files.specs.declared.cause.Refusal.{Refusal}
+use Rattle.run_files.specs.declared.cause.Refusal.TheVariants.{Because, NoMemory}
+use Rattle.run_files.specs.declared.run.AcceptedRun.{AcceptedRun}
+use Rattle.run_files.specs.Verdict.{About}
 use Rattle.run_request.specs.Open.{NamesFile}
 
--- the words and these ticks are accepted
-abbrev pub HasTicks : Option AskedRun → ℕ → Type 0
-HasTicks None n = ⊥
-HasTicks (Some run) n = ticks_of run.ticks ≡ Some n
+-- the words and the ticks are accepted
+abbrev pub HasTicks : Result ℕ About → Type 0
+HasTicks said = (n : ℕ) × (said ≡ Ok n)
 
--- the words are accepted and the ticks are not
-abbrev pub RefusesTicks : Option AskedRun → Type 0
-RefusesTicks None = ⊥
-RefusesTicks (Some run) = ticks_of run.ticks ≡ None
+-- a refusal is by the words or the ticks exactly where these are refused, and it has their word
+abbrev pub BlamesWords : Cause → List ℕ → Result ℕ About → Type 0
+BlamesWords cause.Words name said = said ≡ Err (cause.Words, name)
+BlamesWords cause.Ticks name said = said ≡ Err (cause.Ticks, name)
+BlamesWords cause.Read name said = HasTicks said
+BlamesWords cause.TooLarge name said = HasTicks said
+BlamesWords cause.Document name said = HasTicks said
+BlamesWords cause.Field name said = HasTicks said
+BlamesWords (cause.Image rule) name said = HasTicks said
+BlamesWords cause.Outside name said = HasTicks said
+BlamesWords cause.Overlap name said = HasTicks said
+BlamesWords (cause.Line line) name said = HasTicks said
 
--- where the words or the ticks are refused, the answer says so
-abbrev pub RefusedEarly : Option AskedRun → Cause → Type 0
-RefusedEarly None why = why ≡ Words
-RefusedEarly (Some run) why = ticks_of run.ticks ≡ None → why ≡ Ticks
+-- an accepted run has the ticks that the words say, and a refusal is theirs exactly where they are refused
+abbrev pub FollowsWords : Result AcceptedRun Refusal → Result ℕ About → Type 0
+FollowsWords (Ok run) said = said ≡ Ok run.ticks
+FollowsWords (Err (Because why name)) said = BlamesWords why name said
+FollowsWords (Err NoMemory) said = Unit {0}
 
--- the words and the ticks are accepted, and this is a file of the run before which all are accepted, where the store tells
+-- this is a file of the run before which all files are accepted, where the store tells
 abbrev pub NamesFileOf : Option AskedRun → Option Files → List ℕ → Type 0
 NamesFileOf None held name = ⊥
-NamesFileOf (Some run) held name = ((n : ℕ) × (ticks_of run.ticks ≡ Some n)) × IfSome held (λ files. NamesFile run.system files name)
+NamesFileOf (Some run) held name = IfSome held (λ files. NamesFile run.system files name)

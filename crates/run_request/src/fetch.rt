@@ -2,13 +2,15 @@
 ghost use Rattle.std.specs.Prelude.{◌≡◌, ◌≤◌, length, IfOk, IfSome};
 ghost use Rattle.device_script.specs.Event.{IsScript};
 ghost use Rattle.run_files.specs.Files.{IsAccepted, system_in, sides_in, script_in, file_limit};
-ghost use Rattle.run_files.specs.Verdict.{content_of, made};
-ghost use Rattle.run_request.specs.Fetch.{Tells, FaultsBy, BlamesFile};
+ghost use Rattle.run_files.specs.Refusal.{Tells, FaultsBy, BlamesFile, IfUnread};
+ghost use Rattle.run_files.specs.Verdict.{made_of_file};
+ghost use Rattle.run_request.specs.Fetch.{file_bytes};
 
 use device_script::Script;
 use outside_io::{Content, Fetched, Store, StoreFault};
-use run_files::{Cause, FILE_LIMIT, Refusal, accept_image, accept_script, accept_system};
-use run_memory::Sides;
+use run_files::{
+    Cause, FILE_LIMIT, Refusal, Sides, accept_image, accept_script, accept_system, refused,
+};
 use std::alloc::Global;
 use system_file::System;
 
@@ -16,21 +18,22 @@ use system_file::System;
 pub fn fetch_file<S: Store>(alloc: Global, store: &mut S, name: &str) -> Result<Content, Refusal>
     requires some { 1 ≤ length name.now }
     requires short { length name.now ≤ 255 }
-    ensures told { IfSome (S.held store.old) (λ files. Tells result (content_of (files name.now))) }
+    ensures told { IfSome (S.held store.old) (λ files. Tells result (file_bytes files name.now)) }
     ensures stays { S.held store.new ≡ S.held store.old }
     ensures small { IfOk result (λ content. length content ≤ file_limit) }
+    ensures unread { IfUnread result (λ unread. unread ≡ name.now) }
     ensures blame { BlamesFile result }
-    ensures cause { FaultsBy (S.faults store.old) (S.faults store.new) (S.failed_last store.new) name.now result }
+    ensures cause { FaultsBy (S.faults store.old) (S.faults store.new) (S.failed_last store.new) result }
 {
     match store.fetch(alloc, name, FILE_LIMIT) {
         Ok(Fetched::Bytes(content)) => {
             if content.as_slice().len() > FILE_LIMIT as usize {
-                return Err(Refusal::Because(Cause::TooLarge));
+                return Err(refused(Cause::TooLarge, name.as_bytes()));
             }
             Ok(content)
         }
-        Ok(Fetched::Larger) => Err(Refusal::Because(Cause::TooLarge)),
-        Err(StoreFault::Failed) => Err(Refusal::Because(Cause::Read)),
+        Ok(Fetched::Larger) => Err(refused(Cause::TooLarge, name.as_bytes())),
+        Err(StoreFault::Failed) => Err(refused(Cause::Read, name.as_bytes())),
         Err(StoreFault::NoMemory) => Err(Refusal::NoMemory),
     }
 }
@@ -39,14 +42,15 @@ pub fn fetch_file<S: Store>(alloc: Global, store: &mut S, name: &str) -> Result<
 pub fn open_system<S: Store>(alloc: Global, store: &mut S, name: &str) -> Result<System, Refusal>
     requires some { 1 ≤ length name.now }
     requires short { length name.now ≤ 255 }
-    ensures told { IfSome (S.held store.old) (λ files. Tells result (made system_in (files name.now))) }
+    ensures told { IfSome (S.held store.old) (λ files. Tells result (made_of_file system_in files name.now)) }
     ensures stays { S.held store.new ≡ S.held store.old }
     ensures fields { IfOk result IsAccepted }
+    ensures unread { IfUnread result (λ unread. unread ≡ name.now) }
     ensures blame { BlamesFile result }
-    ensures cause { FaultsBy (S.faults store.old) (S.faults store.new) (S.failed_last store.new) name.now result }
+    ensures cause { FaultsBy (S.faults store.old) (S.faults store.new) (S.failed_last store.new) result }
 {
     match fetch_file(alloc, store, name) {
-        Ok(content) => accept_system(alloc, content.as_slice()),
+        Ok(content) => accept_system(alloc, name.as_bytes(), content.as_slice()),
         Err(refusal) => Err(refusal),
     }
 }
@@ -54,15 +58,17 @@ pub fn open_system<S: Store>(alloc: Global, store: &mut S, name: &str) -> Result
 /// Both sides with a system's image.
 pub fn open_image<S: Store>(alloc: Global, store: &mut S, system: &System) -> Result<Sides, Refusal>
     requires { IsAccepted system.now }
-    ensures told { IfSome (S.held store.old) (λ files. Tells result (made (sides_in system.now) (files system.now.image))) }
+    ensures told { IfSome (S.held store.old) (λ files. Tells result (made_of_file (sides_in system.now) files system.now.image)) }
     ensures stays { S.held store.new ≡ S.held store.old }
     ensures guest_size { IfOk result (λ sides. length sides.memory.guest ≡ system.now.guest_memory) }
     ensures real_time_size { IfOk result (λ sides. length sides.memory.real_time ≡ system.now.real_time_memory) }
+    ensures unread { IfUnread result (λ unread. unread ≡ system.now.image) }
     ensures blame { BlamesFile result }
-    ensures cause { FaultsBy (S.faults store.old) (S.faults store.new) (S.failed_last store.new) system.now.image result }
+    ensures cause { FaultsBy (S.faults store.old) (S.faults store.new) (S.failed_last store.new) result }
 {
-    match fetch_file(alloc, store, system.image.as_str()) {
-        Ok(content) => accept_image(alloc, system, content.as_slice()),
+    let name = system.image.as_str();
+    match fetch_file(alloc, store, name) {
+        Ok(content) => accept_image(alloc, name.as_bytes(), system, content.as_slice()),
         Err(refusal) => Err(refusal),
     }
 }
@@ -71,14 +77,15 @@ pub fn open_image<S: Store>(alloc: Global, store: &mut S, system: &System) -> Re
 pub fn open_script<S: Store>(alloc: Global, store: &mut S, name: &str) -> Result<Script, Refusal>
     requires some { 1 ≤ length name.now }
     requires short { length name.now ≤ 255 }
-    ensures told { IfSome (S.held store.old) (λ files. Tells result (made script_in (files name.now))) }
+    ensures told { IfSome (S.held store.old) (λ files. Tells result (made_of_file script_in files name.now)) }
     ensures stays { S.held store.new ≡ S.held store.old }
     ensures rules { IfOk result (λ script. IsScript script.events) }
+    ensures unread { IfUnread result (λ unread. unread ≡ name.now) }
     ensures blame { BlamesFile result }
-    ensures cause { FaultsBy (S.faults store.old) (S.faults store.new) (S.failed_last store.new) name.now result }
+    ensures cause { FaultsBy (S.faults store.old) (S.faults store.new) (S.failed_last store.new) result }
 {
     match fetch_file(alloc, store, name) {
-        Ok(content) => accept_script(alloc, content.as_slice()),
+        Ok(content) => accept_script(alloc, name.as_bytes(), content.as_slice()),
         Err(refusal) => Err(refusal),
     }
 }

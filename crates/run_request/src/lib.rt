@@ -6,5 +6,5 @@ mod open;
 mod request;
 
 pub use fetch::fetch_file;
-pub use open::{Opened, no_script, open_run, refused};
+pub use open::{no_script, open_run};
 pub use request::request_run;

@@ -9,8 +9,7 @@ ghost use Rattle.run_stream.specs.Writes.{Writes};
 use crate::write::{write_ends, write_tick};
 use outside_io::{NoMemory, Sink};
 use rt_core::{Machine, Parts};
-use run_files::AcceptedRun;
-use run_memory::Sides;
+use run_files::{AcceptedRun, Sides};
 use std::alloc::Global;
 use trace_lines::{GLine, Lines};
 
@@ -63,21 +62,23 @@ fn boot(run: AcceptedRun) -> Result<Machine, NoMemory>
     })
 }
 
-/// Runs the ticks of a run, and writes each line with one put: those of both halves, or the guest's alone. A fault ends it, and then no
+/// Runs the ticks of a run, and writes each line with one put: those that are shown. A fault ends it, and then no
 /// further tick is run.
 pub fn run_streaming<K: Sink>(
     alloc: Global,
     run: AcceptedRun,
-    both: bool,
     sink: &mut K,
 ) -> Result<Finished, RunFault>
     requires ready { IsReady run }
     requires limit { run.ticks ≤ 1000000000 }
-    ensures written { Writes (K.written sink.old) (K.written sink.new) (K.faults sink.old) (K.faults sink.new) (text_of (run_shown both run)) result }
-    ensures breach { IfOk result (λ finished. finished.breach ≡ has_breach (run_shown both run)) }
+    ensures written {
+        Writes (K.written sink.old) (K.written sink.new) (K.faults sink.old) (K.faults sink.new) (text_of (run_shown run)) result
+    }
+    ensures breach { IfOk result (λ finished. finished.breach ≡ has_breach (run_shown run)) }
     ensures machine { IfOk result (λ finished. HasRunTo run run.ticks finished.machine) }
 {
     let ticks = run.ticks;
+    let shown = run.shown;
     let mut lines = match Lines::new(alloc) {
         Ok(lines) => lines,
         Err(_) => return Err(RunFault::NoMemory),
@@ -90,12 +91,12 @@ pub fn run_streaming<K: Sink>(
     for t in 0..ticks {
         machine.tick(&mut lines);
         breach = has_breach_by(breach, lines.g());
-        match write_tick(sink, t + 1, both, &lines) {
+        match write_tick(sink, t + 1, shown, &lines) {
             Ok(()) => {}
             Err(_) => return Err(RunFault::Sink),
         }
     }
-    match write_ends(sink, ticks, both, &machine.end()) {
+    match write_ends(sink, ticks, shown, &machine.end()) {
         Ok(()) => Ok(Finished { machine, breach }),
         Err(_) => Err(RunFault::Sink),
     }

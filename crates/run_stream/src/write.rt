@@ -1,12 +1,13 @@
 // Lines into the sink.
-ghost use Rattle.std.specs.Prelude.{◌≡◌, ◌++◌, map, flat_map, take, if◌then◌else◌};
+ghost use Rattle.std.specs.Prelude.{◌≡◌, ◌++◌};
 ghost use Rattle.outside_io.specs.Sink.{Puts};
 ghost use Rattle.line_kinds.specs.declared.kinds.Line.TheVariants.{R, G};
-ghost use Rattle.run_stream.specs.Lines.{tick_text, piece_of, shown};
+ghost use Rattle.run_stream.specs.Lines.{tick_text, piece_of, shown as shown_lines, ends_among, guest_text, real_time_text};
 
 use line_text::LineText;
 use outside_io::{Sink, SinkFault};
 use rt_core::EndLines;
+use run_files::Shown;
 use trace_lines::{GLine, Lines, RLine, write_g, write_r};
 
 // A G line with its end.
@@ -31,7 +32,10 @@ fn real_time_piece(tick: u32, line: &RLine) -> LineText
 
 // Writes G lines, each with one put. A fault ends it.
 fn write_guest<K: Sink>(sink: &mut K, tick: u32, lines: &[GLine]) -> Result<(), SinkFault>
-    ensures { Puts (K.written sink.old) (K.written sink.new) (K.faults sink.old) (K.faults sink.new) (flat_map (λ line. piece_of (tick, G line)) lines.now) result }
+    ensures {
+        Puts (K.written sink.old) (K.written sink.new) (K.faults sink.old) (K.faults sink.new)
+            (guest_text tick lines.now) result
+    }
 {
     for line in lines {
         if let Err(fault) = sink.put(guest_piece(tick, line).as_bytes()) {
@@ -43,7 +47,10 @@ fn write_guest<K: Sink>(sink: &mut K, tick: u32, lines: &[GLine]) -> Result<(), 
 
 // Writes R lines, each with one put. A fault ends it.
 fn write_real_time<K: Sink>(sink: &mut K, tick: u32, lines: &[RLine]) -> Result<(), SinkFault>
-    ensures { Puts (K.written sink.old) (K.written sink.new) (K.faults sink.old) (K.faults sink.new) (flat_map (λ line. piece_of (tick, R line)) lines.now) result }
+    ensures {
+        Puts (K.written sink.old) (K.written sink.new) (K.faults sink.old) (K.faults sink.new)
+            (real_time_text tick lines.now) result
+    }
 {
     for line in lines {
         if let Err(fault) = sink.put(real_time_piece(tick, line).as_bytes()) {
@@ -60,7 +67,10 @@ fn write_both<K: Sink>(
     real_time: &[RLine],
     guest: &[GLine],
 ) -> Result<(), SinkFault>
-    ensures { Puts (K.written sink.old) (K.written sink.new) (K.faults sink.old) (K.faults sink.new) (flat_map (λ line. piece_of (tick, R line)) real_time.now ++ flat_map (λ line. piece_of (tick, G line)) guest.now) result }
+    ensures {
+        Puts (K.written sink.old) (K.written sink.new) (K.faults sink.old) (K.faults sink.new)
+            (real_time_text tick real_time.now ++ guest_text tick guest.now) result
+    }
 {
     match write_real_time(sink, tick, real_time) {
         Ok(()) => write_guest(sink, tick, guest),
@@ -68,45 +78,52 @@ fn write_both<K: Sink>(
     }
 }
 
-// Writes the lines of both halves, or the guest's alone.
-fn write_lines<K: Sink>(sink: &mut K, tick: u32, both: bool, lines: &Lines) -> Result<(), SinkFault>
-    ensures { Puts (K.written sink.old) (K.written sink.new) (K.faults sink.old) (K.faults sink.new) (tick_text tick (shown both lines.now.r lines.now.g)) result }
+// Writes the lines that are shown.
+fn write_lines<K: Sink>(sink: &mut K, tick: u32, shown: Shown, lines: &Lines) -> Result<(), SinkFault>
+    ensures {
+        Puts (K.written sink.old) (K.written sink.new) (K.faults sink.old) (K.faults sink.new)
+            (tick_text tick (shown_lines shown lines.now.r lines.now.g)) result
+    }
 {
-    if both {
-        write_both(sink, tick, lines.r(), lines.g())
-    } else {
-        write_guest(sink, tick, lines.g())
+    match shown {
+        Shown::Guest => write_guest(sink, tick, lines.g()),
+        Shown::Both => write_both(sink, tick, lines.r(), lines.g()),
     }
 }
 
-/// Writes the lines of a tick, each with one put: those of both halves, or the guest's alone. A fault ends it.
+/// Writes the lines of a tick, each with one put: those that are shown. A fault ends it.
 pub fn write_tick<K: Sink>(
     sink: &mut K,
     tick: u32,
-    both: bool,
+    shown: Shown,
     lines: &Lines,
 ) -> Result<(), SinkFault>
-    ensures { Puts (K.written sink.old) (K.written sink.new) (K.faults sink.old) (K.faults sink.new) (tick_text tick (shown both lines.now.r lines.now.g)) result }
+    ensures {
+        Puts (K.written sink.old) (K.written sink.new) (K.faults sink.old) (K.faults sink.new)
+            (tick_text tick (shown_lines shown lines.now.r lines.now.g)) result
+    }
 {
     // most ticks have no line
     if lines.r().is_empty() && lines.g().is_empty() {
         return Ok(());
     }
-    write_lines(sink, tick, both, lines)
+    write_lines(sink, tick, shown, lines)
 }
 
-/// Writes the end lines, each with one put: both of each half, or the guest's first one alone. A fault ends it.
+/// Writes the end lines, each with one put: those that are shown. A fault ends it.
 pub fn write_ends<K: Sink>(
     sink: &mut K,
     tick: u32,
-    both: bool,
+    shown: Shown,
     ends: &EndLines,
 ) -> Result<(), SinkFault>
-    ensures { Puts (K.written sink.old) (K.written sink.new) (K.faults sink.old) (K.faults sink.new) (tick_text tick (if both then map R ends.now.r ++ map G ends.now.g else map G (take 1 ends.now.g))) result }
+    ensures {
+        Puts (K.written sink.old) (K.written sink.new) (K.faults sink.old) (K.faults sink.new)
+            (tick_text tick (ends_among shown ends.now.r ends.now.g)) result
+    }
 {
-    if both {
-        write_both(sink, tick, &ends.r, &ends.g)
-    } else {
-        write_guest(sink, tick, &ends.g[..1])
+    match shown {
+        Shown::Guest => write_guest(sink, tick, &ends.g[..1]),
+        Shown::Both => write_both(sink, tick, &ends.r, &ends.g),
     }
 }

@@ -7,6 +7,7 @@ use std::test::Fail;
 /// Small images that run: the changed bytes by their places, and the output.
 static RAN: &str = "\
 none | - | R 1 on guest;R 5 end 0 0;R 5 memory 0bfc2037b0c50f23c9e203d7c3da708f80cc5096f34972316976735de0dcdbdd;G 5 end runs 00000000 00000002 00000000 00000000 00000000 00000000 00010000 00000000 00000000 00000000;G 5 memory cb1b331b69eb73f470e06f876e8c99acd9de6d2fd3aa60e0ee9bab65faa6fcf6;
+EI_OSABI isn't read | 7=09 | R 1 on guest;R 5 end 0 0;R 5 memory 0bfc2037b0c50f23c9e203d7c3da708f80cc5096f34972316976735de0dcdbdd;G 5 end runs 00000000 00000002 00000000 00000000 00000000 00000000 00010000 00000000 00000000 00000000;G 5 memory cb1b331b69eb73f470e06f876e8c99acd9de6d2fd3aa60e0ee9bab65faa6fcf6;
 phnum0 | 44=00 | R 1 on guest;R 5 end 0 0;R 5 memory 0bfc2037b0c50f23c9e203d7c3da708f80cc5096f34972316976735de0dcdbdd;G 5 end runs 0000000a 00000046 00000000 00000000 00000000 00000000 00010000 00000000 00000000 00000000;G 5 memory de2f256064a0af797747c2b97505dc0b9f3df0de4f489eac731c23ae9ca9cc31;
 size0 | 68=00 72=00 | R 1 on guest;R 5 end 0 0;R 5 memory 0bfc2037b0c50f23c9e203d7c3da708f80cc5096f34972316976735de0dcdbdd;G 5 end runs 0000000a 00000046 00000000 00000000 00000000 00000000 00010000 00000000 00000000 00000000;G 5 memory de2f256064a0af797747c2b97505dc0b9f3df0de4f489eac731c23ae9ca9cc31;
 ";
@@ -27,6 +28,7 @@ memsz1 | 72=01 | 86 | 20.8 | E 20.8 k.bin;
 offset | 56=ff 57=ff 58=ff 59=ff | 86 | 20.7 | E 20.7 k.bin;
 phentsize31 | 42=1f | 86 | 20.6 | E 20.6 k.bin;
 phnum65 | 44=41 | 86 | 20.6 | E 20.6 k.bin;
+phoff55 | 28=37 | 86 | 20.6 | E 20.6 k.bin;
 phoff | 28=ff 29=ff 30=ff 31=ff | 86 | 20.6 | E 20.6 k.bin;
 type1 | 16=01 | 86 | 20.4 | E 20.4 k.bin;
 type3 | 16=03 | 86 | 20.4 | E 20.4 k.bin;

@@ -35,6 +35,11 @@ a key without a value | version = | 10 | E 10 s.toml;
 no image | version = 1;guest_memory = 65536;real_time_memory = 65536; | 11 | E 11 s.toml;
 the third version | version = 3;image = \"k.bin\";guest_memory = 65536;real_time_memory = 65536; | 11 | E 11 s.toml;
 the second version | version = 2;image = \"k.bin\";guest_memory = 65536;real_time_memory = 65536; | 11 | E 11 s.toml;
+a name that is a number | version = 1;image = 1;guest_memory = 65536;real_time_memory = 65536; | 11 | E 11 s.toml;
+a size as a text | version = 1;image = \"k.bin\";guest_memory = \"65536\";real_time_memory = 65536; | 11 | E 11 s.toml;
+a module that is no name | version = 1;image = \"k.bin\";guest_memory = 65536;real_time_memory = 65536;modules = [\"m\", 1]; | 11 | E 11 s.toml;
+a leading zero | version = 01;image = \"k.bin\";guest_memory = 65536;real_time_memory = 65536; | 10 | E 10 s.toml;
+a text without its end | version = 1;image = \"k.bin;guest_memory = 65536;real_time_memory = 65536; | 10 | E 10 s.toml;
 ";
 
 // Are these the answers to the small image with the system file of a row?

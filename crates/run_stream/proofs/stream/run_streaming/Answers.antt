@@ -11,9 +11,9 @@ use Rattle.run_stream.proofs.stream.run_streaming.Goals as goal
 pub loop-t-init : goal.loop-t-init
 loop-t-init g c = record {
   ran = c.in-Ok-boot.ensures;
-  told = told_first (g.K.Sink.written c.args.sink.now) c.args.both c.args.run;
+  told = told_first (g.K.Sink.written c.args.sink.now) c.args.run.shown c.args.run;
   kept = refl;
-  breach = breach_first c.args.both c.args.run;
+  breach = breach_first c.args.run.shown c.args.run;
 }
 
 pub returns-in-Err-write_tick-clause-written : goal.returns-in-Err-write_tick-clause-written
@@ -31,11 +31,11 @@ returns-in-Err-write_tick-clause-written g c =
     } in
     let ran = c.loop-t.invariant.ran in
     let r = said_r c.args.run c.loop-t.t _ _ _ _ ran tick in
-    let said = shown_same c.args.both c.args.run c.loop-t.t _ _ r (said_g c.args.run c.loop-t.t _ _ _ _ ran tick) in
-    let whole = whole_at c.args.both c.args.run c.loop-t.t _ (omega arith) said in (
+    let said = shown_same c.args.run.shown c.args.run c.loop-t.t _ _ r (said_g c.args.run c.loop-t.t _ _ _ _ ran tick) in
+    let whole = whole_at c.args.run.shown c.args.run c.loop-t.t _ (omega arith) said in (
       omega (arith, put.0, c.loop-t.invariant.kept),
       omega (arith, put.1, c.loop-t.invariant.kept),
-      fault_part (g.K.Sink.written c.args.sink.now) (g.K.Sink.written c.loop-t.sink) (g.K.Sink.written c.write_tick.new.sink) (text_of (shown_to c.args.both c.args.run c.loop-t.t)) _ whole.0 _
+      fault_part (g.K.Sink.written c.args.sink.now) (g.K.Sink.written c.loop-t.sink) (g.K.Sink.written c.write_tick.new.sink) (text_of (shown_to c.args.run.shown c.args.run c.loop-t.t)) _ whole.0 _
           c.loop-t.invariant.told whole.1 put.2.0 put.2.1 put.2.2,
     )
 
@@ -53,32 +53,32 @@ loop-t-preserved g c =
     } in
     let ran = c.loop-t.invariant.ran in
     let r = said_r c.args.run c.loop-t.t _ _ _ _ ran tick in
-    let said = shown_same c.args.both c.args.run c.loop-t.t _ _ r (said_g c.args.run c.loop-t.t _ _ _ _ ran tick) in
+    let said = shown_same c.args.run.shown c.args.run c.loop-t.t _ _ r (said_g c.args.run c.loop-t.t _ _ _ _ ran tick) in
     record {
       ran = ran_next c.args.run c.loop-t.t _ _ _ _ ran tick;
-      told = told_next (g.K.Sink.written c.args.sink.now) (g.K.Sink.written c.loop-t.sink) (g.K.Sink.written c.write_tick.new.sink) c.args.both c.args.run c.loop-t.t _ said c.loop-t.invariant.told c.in-Ok-write_tick.ensures.0;
+      told = told_next (g.K.Sink.written c.args.sink.now) (g.K.Sink.written c.loop-t.sink) (g.K.Sink.written c.write_tick.new.sink) c.args.run.shown c.args.run c.loop-t.t _ said c.loop-t.invariant.told c.in-Ok-write_tick.ensures.0;
       kept = c.in-Ok-write_tick.ensures.1 ∙ c.loop-t.invariant.kept;
-      breach = breach_next c.args.both c.args.run c.loop-t.t _ _ c.loop-t.breach _ said c.loop-t.invariant.breach (c.has_breach_by-breach.ensures ∙ ap (λ lines. c.loop-t.breach || list_any is_breach lines) c.g.ensures);
+      breach = breach_next c.args.run.shown c.args.run c.loop-t.t _ _ c.loop-t.breach _ said c.loop-t.invariant.breach (c.has_breach_by-breach.ensures ∙ ap (λ lines. c.loop-t.breach || list_any is_breach lines) c.g.ensures);
     }
 
 pub returns-in-Ok-write_ends-clause-written : goal.returns-in-Ok-write_ends-clause-written
 returns-in-Ok-write_ends-clause-written g c =
     let done : c.loop-t.t ≡ c.args.run.ticks = omega arith in
-    let said = ends_same c.args.both c.args.run c.loop-t.t _ _ _ c.loop-t.invariant.ran c.end.ensures.real_time c.end.ensures.guest in (
-      told_end (g.K.Sink.written c.args.sink.now) (g.K.Sink.written c.loop-t.sink) (g.K.Sink.written c.write_ends.new.sink) c.args.both c.args.run c.loop-t.t _ done said c.loop-t.invariant.told c.in-Ok-write_ends.ensures.0,
+    let said = ends_same c.args.run.shown c.args.run c.loop-t.t _ _ _ c.loop-t.invariant.ran c.end.ensures.real_time c.end.ensures.guest in (
+      told_end (g.K.Sink.written c.args.sink.now) (g.K.Sink.written c.loop-t.sink) (g.K.Sink.written c.write_ends.new.sink) c.args.run.shown c.args.run c.loop-t.t _ done said c.loop-t.invariant.told c.in-Ok-write_ends.ensures.0,
       c.in-Ok-write_ends.ensures.1 ∙ c.loop-t.invariant.kept,
     )
 
 pub returns-in-Ok-write_ends-clause-breach : goal.returns-in-Ok-write_ends-clause-breach
-returns-in-Ok-write_ends-clause-breach g c = c.loop-t.invariant.breach ∙ breach_end c.args.both c.args.run c.loop-t.t (omega arith)
+returns-in-Ok-write_ends-clause-breach g c = c.loop-t.invariant.breach ∙ breach_end c.args.run.shown c.args.run c.loop-t.t (omega arith)
 
 pub returns-clause-written : goal.returns-clause-written
 returns-clause-written g c =
     let put = c.in-Err-write_ends.ensures in
     let done : c.loop-t.t ≡ c.args.run.ticks = omega arith in
-    let said = ends_same c.args.both c.args.run c.loop-t.t _ _ _ c.loop-t.invariant.ran c.end.ensures.real_time c.end.ensures.guest in
-    let front = text_of (shown_to c.args.both c.args.run c.loop-t.t) in
-    let whole = whole_end c.args.both c.args.run c.loop-t.t _ done said ∙ ap (λ xs. front ++ xs) (sym (append-nil _)) in (
+    let said = ends_same c.args.run.shown c.args.run c.loop-t.t _ _ _ c.loop-t.invariant.ran c.end.ensures.real_time c.end.ensures.guest in
+    let front = text_of (shown_to c.args.run.shown c.args.run c.loop-t.t) in
+    let whole = whole_end c.args.run.shown c.args.run c.loop-t.t _ done said ∙ ap (λ xs. front ++ xs) (sym (append-nil _)) in (
       omega (arith, put.0, c.loop-t.invariant.kept),
       omega (arith, put.1, c.loop-t.invariant.kept),
       fault_part (g.K.Sink.written c.args.sink.now) (g.K.Sink.written c.loop-t.sink) (g.K.Sink.written c.write_ends.new.sink) front _ [] _

@@ -8,7 +8,7 @@ use Rattle.run_stream.proofs.stream.run_streaming.Given as goal
 abbrev pub invariant-loop-t : goal.invariant-loop-t
 invariant-loop-t g l = record {
   ran : HasRunTo l.fn.run l.t l.machine;
-  told : g.K.Sink.written l.sink ≡ appended (g.K.Sink.written l.initial.sink) (text_of (shown_to l.both l.fn.run l.t));
+  told : g.K.Sink.written l.sink ≡ appended (g.K.Sink.written l.initial.sink) (text_of (shown_to l.fn.run.shown l.fn.run l.t));
   kept : g.K.Sink.faults l.sink ≡ g.K.Sink.faults l.initial.sink;
-  breach : l.breach ≡ has_breach (shown_to l.both l.fn.run l.t);
+  breach : l.breach ≡ has_breach (shown_to l.fn.run.shown l.fn.run l.t);
 }

@@ -1,6 +1,6 @@
 // What of the real-time side is the executive's own: the stub at its first address, and a stack at its end.
 ghost use Rattle.std.specs.Prelude.{◌≡◌, ◌≤◌, ◌<◌, ◌+◌, ◌^◌, length, IfOk};
-ghost use Rattle.run_memory.specs.Stub.{stub_stored, reserved_of};
+ghost use Rattle.run_files.specs.Stub.{stub_stored, reserved_of};
 
 use elf_loader::Spans;
 use flat_memory::FlatMemory;

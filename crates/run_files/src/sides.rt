@@ -1,7 +1,7 @@
 // Both sides as a run starts.
 ghost use Rattle.std.specs.Prelude.{◌≡◌, ◌≤◌, length, IfOk, All};
 ghost use Rattle.elf_loader.specs.Place.{Fits};
-ghost use Rattle.run_memory.specs.Sides.{sides_of, Makes};
+ghost use Rattle.run_files.specs.Sides.{sides_of, Makes};
 
 use crate::image::place_image;
 use crate::stub::store_stub;

@@ -1,7 +1,7 @@
 // The image on the guest's side.
 ghost use Rattle.std.specs.Prelude.{◌≡◌, ◌<◌, ◌^◌, length, All};
 ghost use Rattle.elf_loader.specs.Place.{Fits};
-ghost use Rattle.run_memory.specs.Guest.{Places};
+ghost use Rattle.run_files.specs.Guest.{Places};
 
 use elf_loader::{Image, PlaceRefusal, Spans, place};
 use flat_memory::{FlatMemory, Side};

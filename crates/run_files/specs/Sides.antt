@@ -4,9 +4,9 @@ use Rattle.flat_memory.specs.Zeros.{zeros}
 use Rattle.elf_loader.specs.declared.image.Image.{Image}
 use Rattle.elf_loader.specs.declared.placing.PlaceRefusal.{PlaceRefusal}
 use Rattle.elf_loader.specs.declared.placing.PlaceRefusal.TheVariants.{Outside, Overlap, NoMemory}
-use Rattle.run_memory.specs.declared.sides.Sides.{Sides}
-use Rattle.run_memory.specs.Guest.{Misfit, PartOutside, PartsOverlap, Placed, placing_of}
-use Rattle.run_memory.specs.Stub.{stub_stored}
+use Rattle.run_files.specs.declared.sides.Sides.{Sides}
+use Rattle.run_files.specs.Guest.{Misfit, PartOutside, PartsOverlap, Placed, placing_of}
+use Rattle.run_files.specs.Stub.{stub_stored}
 
 -- the guest's side with an image, and beside it a real-time side of r bytes with its stub
 abbrev pub beside_stub : ℕ → Result Placed Misfit → Result Sides Misfit

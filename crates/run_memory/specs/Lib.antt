@@ -1,3 +1,0 @@
-pub mod Guest
-pub mod Sides
-pub mod Stub
