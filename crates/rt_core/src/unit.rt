@@ -10,7 +10,9 @@ ghost use Rattle.i386_execute.specs.Unit.{address_behind};
 ghost use Rattle.soft_flags.specs.SoftFlags.{HasTableIn, is_open};
 ghost use Rattle.pending_irqs.specs.Pending.{lowest_enabled};
 ghost use Rattle.soft_entry.specs.Entry.{entering};
-ghost use Rattle.soft_gates.specs.Gate.{gated, WhenOutside};
+ghost use Rattle.soft_gates.specs.Calls.{no_services};
+ghost use Rattle.soft_gates.specs.Gate.{gated};
+ghost use Rattle.soft_gates.specs.Outcome.{outcome_of, WhenOutside, IsOffered};
 ghost use Rattle.breach_monitor.specs.SerialUnit.{unit_at};
 ghost use Rattle.bare_machine.specs.State.{Done};
 ghost use Rattle.bare_machine.specs.Unit.{int_entry, asked_entry, gate as gate_of, instruction as instruction_of, guest_unit as guest_unit_of, use_kind, access_kind, breach_kind};
@@ -27,11 +29,17 @@ use port_board::Board;
 use port_map::Owner;
 use soft_entry::{Entry, enter};
 use soft_flags::SoftFlags;
-use soft_gates::{GateUnit, gate};
+use soft_gates::{GateUnit, Services, gate};
 use trace_lines::{BreachKind, GLine, Lines, Mode};
 
 /// The vector of the first interrupt line; that of line n is n above it.
 const FIRST_LINE: u8 = 0x20;
+
+/// As far as the machine is built, the guest has no timer and no FIFOs.
+const SERVICES: Services = Services {
+    timer: false,
+    fifos: false,
+};
 
 fn use_kind(kind: Privileged) -> BreachKind
     ensures { result ≡ use_kind kind }
@@ -140,12 +148,13 @@ fn gate_on(
     requires last { number ≤ last_gate }
     requires size { length bytes.old < 2 ^ 32 }
     requires table { HasTableIn soft.old (length bytes.old) }
-    ensures gated { record { came = result; registers = registers.new; flags = soft.new; side = side_at 0 bytes.new } ≡ gated number next now registers.old soft.old (side_at 0 bytes.old) }
+    ensures gated { record { came = outcome_of result; registers = registers.new; flags = soft.new; side = side_at 0 bytes.new } ≡ gated number next now no_services registers.old soft.old (side_at 0 bytes.old) }
     ensures unchanged { WhenOutside result ((registers.new ≡ registers.old) × (soft.new ≡ soft.old) × (bytes.new ≡ bytes.old)) }
+    ensures offered { IsOffered no_services (side_at 0 bytes.new) result }
     ensures table { HasTableIn soft.new (length bytes.old) }
 {
     let mut side = Side::new(0, bytes);
-    gate(number, next, now, registers, soft, &mut side)
+    gate(number, next, now, SERVICES, registers, soft, &mut side)
 }
 
 // A trap or an interrupt, with its line.
@@ -247,6 +256,9 @@ fn perform_gate(
             guest.mode = Mode::Halted;
             Some(GLine::Halt)
         }
+        // Neither function is there.
+        GateUnit::Timer(_) => None,
+        GateUnit::Calls(_) => None,
         GateUnit::Outside(access, at) => {
             guest.mode = Mode::Stopped;
             Some(GLine::Breach(access_kind(access, at)))

@@ -12,8 +12,8 @@ use Rattle.soft_entry.specs.Entry.{Entering, entering}
 use Rattle.soft_entry.specs.declared.entry.Entry.{Entry}
 use Rattle.soft_entry.specs.declared.entry.Entry.TheVariants.{Entered, Shutdown, Outside as OutsideEntry}
 use Rattle.soft_gates.specs.Gate.{Gated, gated}
-use Rattle.soft_gates.specs.declared.gates.GateUnit.{GateUnit}
-use Rattle.soft_gates.specs.declared.gates.GateUnit.TheVariants.{Finished, Halted, Outside as OutsideGate}
+use Rattle.soft_gates.specs.Outcome.{GateOutcome, Finishes, Halts, SetsTimer, MakesCall, AccessOutside}
+use Rattle.soft_gates.specs.Service.{Served, set_timer, fifo_put, put_unless, fifo_get, get_unless, service}
 use Rattle.line_kinds.specs.declared.kinds.BreachKind.{BreachKind}
 use Rattle.line_kinds.specs.declared.kinds.GLine.{GLine}
 use Rattle.line_kinds.specs.declared.kinds.GLine.TheVariants.{Enter, Int as IntLine}
