@@ -1,7 +1,7 @@
 -- The hardware of a tick, in four steps, and of a run. A rise is latched until it is acknowledged (8259A data sheet, "Interrupt
 -- Request Register"); the one-shot is the 8254's counter 0 in mode 0, which rises with the pulse after so many as its count has (8254
 -- data sheet, "Mode 0"). When the executive acknowledges and when it sets the one-shot is this project's own.
-use Rattle.std.specs.Prelude.{ℕ, suc, zero, ◌+◌, ◌-◌, ◌*◌, ◌/◌, ◌==◌, min, max, Bool, true, false, not, List, [], ◌∷◌, ◌++◌, map, filter, fold, if◌then◌else◌, Option, Some, None, option_map}
+use Rattle.std.specs.Prelude.{ℕ, suc, zero, ◌+◌, ◌-◌, ◌*◌, ◌/◌, ◌==◌, Bool, true, false, not, List, [], ◌∷◌, ◌++◌, map, filter, fold, if◌then◌else◌, Option, Some, None}
 use Rattle.std.specs.List.{range_with_len}
 use Rattle.line_sets.specs.LineSet.{has, with_line, without_line}
 use Rattle.pic_8259.specs.Boot.{acknowledge_order}
@@ -18,7 +18,7 @@ use Rattle.run_lines.specs.Ticks.{at_tick, lines_to}
 use Rattle.bare_machine.specs.State.{Bare, GuestStart}
 use Rattle.bare_machine.specs.Run.{bare_after}
 use Rattle.bare_machine.specs.Tick.{after_devices as bare_devices}
-use Rattle.rt_timeline.specs.declared.timeline.ThreadDue.{ThreadDue}
+use Rattle.rt_timeline.specs.Dues.{earlier_due, time_of, ticks_until, count_until}
 use Rattle.priority_schedule.specs.Release.{nearest, drains}
 use Rattle.priority_schedule.specs.Run.{real_after}
 use Rattle.priority_schedule.specs.State.{RealTime, RealTimeStart}

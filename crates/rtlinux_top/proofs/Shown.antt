@@ -10,7 +10,7 @@ use Rattle.run_lines.proofs.AtTick.{lines_to-same}
 use Rattle.run_lines.specs.Calls.{calls_of}
 use Rattle.run_lines.specs.Ticks.{at_tick, stamped, lines_to}
 use Rattle.run_output.specs.Merge.{tick_lines}
-use Rattle.run_output.specs.Output.{run_output}
+use Rattle.schedule_laws.specs.Output.{run_output}
 use Rattle.hardware_lines.specs.Hardware.{hardware_lines}
 use Rattle.bare_machine.specs.State.{Bare}
 use Rattle.bare_machine.specs.Run.{bare, bare_after, bare_lines, bare_end}

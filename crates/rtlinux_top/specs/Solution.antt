@@ -7,7 +7,7 @@ use Rattle.line_kinds.specs.declared.kinds.Line.TheVariants.{G}
 use Rattle.line_kinds.specs.declared.kinds.RLine.{RLine}
 use Rattle.run_lines.specs.Calls.{calls_of}
 use Rattle.run_lines.specs.Ticks.{stamped, lines_to}
-use Rattle.run_output.specs.Output.{run_output}
+use Rattle.schedule_laws.specs.Output.{run_output}
 use Rattle.bare_machine.specs.Run.{bare, bare_end}
 use Rattle.priority_schedule.specs.State.{RealTimeStart}
 use Rattle.rt_core.specs.End.{quiet_end}

@@ -1,21 +1,12 @@
--- The order of lines, by computation, and that more ticks go on from fewer.
-use Rattle.std.proofs.Common.{◌≡◌, ℕ, zero, suc, ◌+◌, Bool, true, false, refl, List, [], ◌∷◌}
-use Rattle.device_script.specs.declared.event.Event.{Event}
+-- The order of lines, by computation.
+use Rattle.std.proofs.Common.{◌≡◌, ℕ, zero, suc, true, false, refl, List, [], ◌∷◌}
 use Rattle.line_kinds.specs.declared.kinds.GLine.TheVariants.{Halt, Com1}
 use Rattle.line_kinds.specs.declared.kinds.HLine.TheVariants.{Ack}
 use Rattle.line_kinds.specs.declared.kinds.Line.TheVariants.{R, G, H}
 use Rattle.line_kinds.specs.declared.kinds.RLine.{RLine}
 use Rattle.line_kinds.specs.declared.kinds.RLine.TheVariants.{Ret, End}
-use Rattle.line_kinds.specs.Calls.{Call}
-use Rattle.run_lines.specs.Ticks.{IsPrefixOf, lines_to}
-use Rattle.run_lines.proofs.Longer.{longer}
-use Rattle.bare_machine.specs.Run.{bare_lines}
-use Rattle.bare_machine.specs.State.{GuestStart}
-use Rattle.priority_schedule.specs.Run.{real_lines}
-use Rattle.priority_schedule.specs.State.{RealTimeStart}
-use Rattle.hardware_lines.specs.Hardware.{hardware_lines}
+use Rattle.run_lines.specs.Ticks.{lines_to}
 use Rattle.run_output.specs.Merge.{tick_lines, merged, with_ends}
-use Rattle.run_output.specs.Output.{run_lines}
 
 real_time_first : tick_lines true (Ret ∷ []) (Ack 5 ∷ []) (Com1 65 ∷ Halt ∷ []) ≡ R Ret ∷ H (Ack 5) ∷ G (Com1 65) ∷ G Halt ∷ []
 real_time_first = refl
@@ -34,8 +25,3 @@ tick_by_tick = refl
 
 ends_last : with_ends 7 (End 0 0 ∷ []) (Halt ∷ []) ((7, G Halt) ∷ []) ≡ (7, G Halt) ∷ (7, R (End 0 0)) ∷ (7, G Halt) ∷ []
 ends_last = refl
-
-more_ticks : (hardware : Bool) (guest : GuestStart) (start : RealTimeStart) (script : List (ℕ × Event)) (r : List (ℕ × RLine)) (calls : List (ℕ × Call)) (n m : ℕ)
-    → IsPrefixOf (run_lines hardware guest start script r calls n) (run_lines hardware guest start script r calls (n + m))
-more_ticks hardware guest start script r calls n m =
-    longer (λ k. tick_lines hardware (real_lines start script calls k) (hardware_lines guest start script r calls k) (bare_lines guest script r k)) n m

@@ -187,7 +187,7 @@ turned_reads z s who on_is h =
       }
       | false ↦ λ e. record {
         reads = let r = started_reads who s.real (fold after_line z s.lines) h.reads in
-            subst (λ (x : Seen). ReadsState next x) (sym (fold-append after_line z s.lines (On who ∷ []))) r;
+            subst (λ (x : Seen). ReadsState next x) (sym (fold-append after_line z s.lines (On who ∷ []))) (record { priorities_are = r.priorities_are; ready_are = r.ready_are; live = r.live });
         only = filter-append is_release s.lines (On who ∷ []) ∙ append-nil (filter is_release s.lines);
         holds = fold-append held_by z.who s.lines (On who ∷ []);
         on_is = refl;

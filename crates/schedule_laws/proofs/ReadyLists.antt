@@ -1,5 +1,5 @@
 -- The ready list is just the threads in state ready: four shapes of change keep it, and every gate, release and unit has one of them.
-use Rattle.std.proofs.Common.{◌≡◌, ◌≢◌, ℕ, zero, suc, ◌+◌, ◌-◌, ◌<◌, ◌≤◌, Bool, true, false, not, ◌&&◌, ◌||◌, cond, ◌==◌, eqb, refl, sym, ap, ◌∙◌, arith, List, [], ◌∷◌, ◌++◌, length, if◌then◌else◌, Option, Some, None, filter, subst, option_map, set, get_or, is_none, is_some, position, replicate, ⊎_elim, absurd}
+use Rattle.std.proofs.Common.{◌≡◌, ◌≢◌, ℕ, zero, suc, ◌+◌, ◌-◌, ◌<◌, ◌≤◌, Bool, true, false, not, ◌&&◌, ◌||◌, cond, ◌==◌, eqb, refl, sym, ap, ◌∙◌, arith, List, [], ◌∷◌, ◌++◌, length, if◌then◌else◌, Option, Some, None, filter, subst, option_map, set, get_or, is_none, is_some, position, replicate, ⊎_elim}
 use Rattle.std.proofs.Math.ListN.{length-set}
 use Rattle.std.proofs.lemmas.Bool.Decides.{nat_tests, eqb_tells}
 use Rattle.std.proofs.lemmas.List.{get_or-set_same, get_or-set_other, get_or_past}
@@ -109,7 +109,7 @@ once-joined i since (x ∷ xs) out h =
 -- The four shapes
 
 -- a place of the threads, where one is set
-at_set : (threads : List (Option Thread)) (i j : ℕ) (slot : Option Thread) → eqb j i ≡ false → thread_at (set threads i slot) j ≡ thread_at threads j
+at_set : (threads : List (Option Thread)) (i j : ℕ) (slot : Option Thread) → j ≢ i → thread_at (set threads i slot) j ≡ thread_at threads j
 at_set threads i j slot h = get_or-set_other threads i j slot None h
 
 past_set : (threads : List (Option Thread)) (i : ℕ) (slot : Option Thread) → is_ready_in slot ≡ false → is_ready_in (thread_at (set threads i slot) i) ≡ false
@@ -124,7 +124,7 @@ leaves_list threads ready i slot out h = record {
   just_ready = λ j. ⊎_elim
       (λ (d : (eqb j i ≡ true) × (j ≡ i)).
       subst (λ k. is_ready k (without i ready) ≡ is_ready_in (thread_at (set threads i slot) k)) (sym d.1) (ready-without_same i ready ∙ sym (past_set threads i slot out)))
-      (λ (d : (eqb j i ≡ false) × (j ≢ i)). ready-without_other i j ready d.0 ∙ h.just_ready j ∙ ap is_ready_in (sym (at_set threads i j slot d.0)))
+      (λ (d : (eqb j i ≡ false) × (j ≢ i)). ready-without_other i j ready d.0 ∙ h.just_ready j ∙ ap is_ready_in (sym (at_set threads i j slot d.1)))
       (eqb_tells j i);
   once = once-without i ready h.once;
 }
@@ -144,7 +144,7 @@ joins_list threads ready i since th small is_ready_now out h =
           (ready-joined i i since ready ∙ rw (out, same) refl ∙ sym place))
           (λ (d : (eqb j i ≡ false) × (j ≢ i)).
           let apart : (i == j) ≡ false = grind (arith, nat_tests, d.0) in
-          ready-joined j i since ready ∙ or_false (is_ready j ready) (i == j) apart ∙ h.just_ready j ∙ ap is_ready_in (sym (at_set threads i j (Some th) d.0)))
+          ready-joined j i since ready ∙ or_false (is_ready j ready) (i == j) apart ∙ h.just_ready j ∙ ap is_ready_in (sym (at_set threads i j (Some th) d.1)))
           (eqb_tells j i);
       once = once-joined i since ready out h.once;
     }
@@ -165,7 +165,7 @@ keeps_list threads ready i change same h = record {
   places = length-set threads i (option_map change (thread_at threads i)) ∙ h.places;
   just_ready = λ j. ⊎_elim
       (λ (d : (eqb j i ≡ true) × (j ≡ i)). subst (λ k. is_ready k ready ≡ is_ready_in (thread_at (with_thread i change threads) k)) (sym d.1) (h.just_ready i ∙ kept_place change same threads i))
-      (λ (d : (eqb j i ≡ false) × (j ≢ i)). h.just_ready j ∙ ap is_ready_in (sym (at_set threads i j (option_map change (thread_at threads i)) d.0)))
+      (λ (d : (eqb j i ≡ false) × (j ≢ i)). h.just_ready j ∙ ap is_ready_in (sym (at_set threads i j (option_map change (thread_at threads i)) d.1)))
       (eqb_tells j i);
   once = h.once;
 }
@@ -211,7 +211,7 @@ created_list : (t : ℕ) (q : Request) (p : GateParts) (o : Option ℕ) → free
 created_list t q p None e h = h
 created_list t q p (Some i) e h =
     let place = position-Some is_none p.threads i None e in
-    let free : is_ready_in (thread_at p.threads i) ≡ false = none_ready (thread_at p.threads i) place.1.0 in
+    let free : is_ready_in (thread_at p.threads i) ≡ false = none_ready (thread_at p.threads i) place.1 in
     joins_list p.threads p.ready i t (new_thread q.ecx (starting q.ebx q.esi (q.edx - 4) true)) place.0 refl (h.just_ready i ∙ free) h
 
 woken_gate : (t i : ℕ) (p : GateParts) → is_live p.threads i ≡ true → ListOf p → ListOf (woken t i p)

@@ -6,7 +6,7 @@ use Rattle.device_script.specs.declared.event.Event.{Event}
 use Rattle.line_kinds.specs.declared.kinds.GLine.{GLine}
 use Rattle.line_kinds.specs.declared.kinds.RLine.{RLine}
 use Rattle.line_kinds.specs.declared.kinds.Who.{Who}
-use Rattle.line_kinds.specs.declared.kinds.Who.TheVariants.{Guest, Thread}
+use Rattle.line_kinds.specs.declared.kinds.Who.TheVariants.{Guest, Thread as ThreadOn}
 use Rattle.line_kinds.specs.Calls.{Call}
 use Rattle.run_lines.specs.Calls.{calls_of}
 use Rattle.run_lines.specs.Says.{holder, held, pended, reply_in}
@@ -25,7 +25,8 @@ use Rattle.priority_schedule.specs.Unit.{unit_of}
 use Rattle.rt_constants.specs.declared.limits.TheConstants.{THREADS_LIMIT}
 use Rattle.hardware_lines.specs.Hardware.{Hardware, Machines, devices_of, chosen_of, device_step, drain_step, guest_due, hardware, hardware_after, machines_after, marking}
 use Rattle.hardware_lines.specs.Timely.{IsTimely}
-use Rattle.run_output.specs.Output.{run_lines}
+use Rattle.run_output.specs.Halves.{found, real_time_in, guest_in, hardware_in}
+use Rattle.schedule_laws.specs.Output.{run_lines, run_output}
 
 -- One solution. Guest lines and real-time lines that meet both equations: the guest's are those of the bare machine beside the
 -- real-time lines, and these are those of the schedule beside the guest's calls
@@ -66,6 +67,17 @@ abbrev pub LongerRuns : Type 0
 LongerRuns =
     (guest : GuestStart) (start : RealTimeStart) (script : List (ℕ × Event)) (n m : ℕ) (g g' : List (ℕ × GLine)) (r r' : List (ℕ × RLine))
     → IsSolution guest start script n g r → IsSolution guest start script (n + m) g' r' → GoesOn guest start script n m g g' r r'
+
+-- What is printed. The real-time lines of an output are the run of the schedule, its guest lines that of the bare machine, and, where they
+-- are asked for, its hardware lines those of the hardware
+
+pub record OutputLosesNothing : Type 0 where
+  pub of_real : (h : Bool) (guest : GuestStart) (start : RealTimeStart) (script : List (ℕ × Event)) (n : ℕ) (r : List (ℕ × RLine)) (calls : List (ℕ × Call))
+      → found real_time_in (run_output h guest start script n r calls) ≡ real_time start script n calls
+  pub of_guest : (h : Bool) (guest : GuestStart) (start : RealTimeStart) (script : List (ℕ × Event)) (n : ℕ) (r : List (ℕ × RLine)) (calls : List (ℕ × Call))
+      → found guest_in (run_output h guest start script n r calls) ≡ bare guest script n r
+  pub of_hardware : (guest : GuestStart) (start : RealTimeStart) (script : List (ℕ × Event)) (n : ℕ) (r : List (ℕ × RLine)) (calls : List (ℕ × Call))
+      → found hardware_in (run_output true guest start script n r calls) ≡ hardware guest start script n r calls
 
 -- Two guests that make equal calls have equal real-time lines
 
@@ -170,7 +182,7 @@ CalmUnlatched =
 
 abbrev pub TickDrains : Type 0
 TickDrains =
-    (t : ℕ) (events : List Event) (m : RealTime) → ((i : ℕ) → m.on ≡ Some (Thread i) → is_ready i m.ready ≡ true)
+    (t : ℕ) (events : List Event) (m : RealTime) → ((i : ℕ) → m.on ≡ Some (ThreadOn i) → is_ready i m.ready ≡ true)
     → (opened t events m).real.on ≡ Some Guest → drains m ≡ true
 
 abbrev pub GuestDrains : Type 0

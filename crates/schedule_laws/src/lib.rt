@@ -4,7 +4,7 @@
 //! proved of it is proved of every such pair.
 #![tactic(auto)]
 
-ghost use Rattle.schedule_laws.specs.Laws.{AlwaysTimely, CalmUnlatched, DrainedCalm, GuestDrains, LinesSay, LongerBare, LongerReal, LongerRuns, OneSolution, Priority, RunReady, ThreadsSeen, TickDrains, TickReady, TickTimely, TwoGuests, UnitsShow};
+ghost use Rattle.schedule_laws.specs.Laws.{AlwaysTimely, CalmUnlatched, DrainedCalm, GuestDrains, LinesSay, LongerBare, LongerReal, LongerRuns, OneSolution, OutputLosesNothing, Priority, RunReady, ThreadsSeen, TickDrains, TickReady, TickTimely, TwoGuests, UnitsShow};
 
 /// For each guest start, real-time start, script and number of ticks there is exactly one pair of guest lines and real-time lines
 /// that meets both equations.
@@ -18,6 +18,11 @@ pub fn longer_runs()
     ensures real { LongerReal }
     ensures bare { LongerBare }
     ensures both { LongerRuns }
+{}
+
+/// The lines of both halves and of the hardware are those of a run's output.
+pub fn output_loses_nothing()
+    ensures { OutputLosesNothing }
 {}
 
 /// Two guests that make equal calls have equal real-time lines.

@@ -12,7 +12,7 @@ use Rattle.bare_machine.specs.State.{GuestStart, all_services}
 use Rattle.priority_schedule.specs.Run.{real_end}
 use Rattle.priority_schedule.specs.State.{RealTimeStart}
 use Rattle.hardware_lines.specs.Hardware.{hardware}
-use Rattle.run_output.specs.Output.{run_lines}
+use Rattle.schedule_laws.specs.Output.{run_lines}
 use Rattle.schedule_laws.specs.Both.{both_after, both_r, both_g, all_g, all_r}
 
 -- Bytes from text: two lower-case digits each, with spaces between them as one likes
