@@ -1,6 +1,6 @@
 -- What a tick comes to where no instruction is decoded, by computation.
 use Rattle.std.proofs.Common.{◌≡◌, ℕ, true, false, refl, [], ◌∷◌, Some, pos, negsuc}
-use Rattle.cpu_state.specs.Registers.{eax}
+use Rattle.cpu_state.specs.Registers.{eax, at_eip}
 use Rattle.line_kinds.specs.declared.kinds.BreachKind.TheVariants.{Load, Store}
 use Rattle.line_kinds.specs.declared.kinds.GLine.TheVariants.{Breach, Shutdown, Com1}
 use Rattle.line_kinds.specs.declared.kinds.Mode.TheVariants.{Halted, Stopped}
@@ -9,10 +9,11 @@ use Rattle.soft_entry.specs.Entry.{entering}
 use Rattle.memory_model.specs.Side.{first_outside}
 use Rattle.line_kinds.specs.Calls.{PutCall, GetCall}
 use Rattle.run_lines.specs.Says.{Answer}
-use Rattle.bare_machine.specs.Calls.{set_timer, fifo_put, fifo_get, is_served, replied}
+use Rattle.soft_gates.specs.Gate.{gated}
+use Rattle.soft_gates.specs.Service.{service}
 use Rattle.bare_machine.specs.State.{Bare, Done, Calls, all_services, no_services, first_state}
 use Rattle.bare_machine.specs.Tick.{asked_also, com1_lines, guest_begins, prepared}
-use Rattle.bare_machine.specs.Unit.{guest_unit, unit_after}
+use Rattle.bare_machine.specs.Unit.{gate, guest_unit, unit_after, after_reply}
 
 -- a guest of four bytes that halted, of which line 5 is asked
 asleep : Bare
@@ -60,52 +61,61 @@ byte_has_its_line = refl
 no_answer : Answer
 no_answer = record { result = pos 0; bytes = [] }
 
--- the guest's registers name a FIFO, a place and a count, or a period
-naming : (ecx edx ebx : ℕ) → Bare
-naming ecx edx ebx = record asleep { registers = record asleep.registers { general = 0 ∷ ecx ∷ edx ∷ ebx ∷ 0 ∷ 0 ∷ 0 ∷ 0 ∷ [] } }
+-- the guest calls a function in EAX of the gate F6h, with its arguments
+calling : (function ecx edx ebx : ℕ) → Bare
+calling function ecx edx ebx = record asleep { registers = record asleep.registers { general = function ∷ ecx ∷ edx ∷ ebx ∷ 0 ∷ 0 ∷ 0 ∷ 0 ∷ [] } }
+
+-- and goes on at address 2
+behind : Bare → Bare
+behind b = record b { registers = at_eip 2 b.registers }
 
 -- the timer of period 10 begins in tick 7, and one above a second isn't taken
-set_in_tick_7 : set_timer 7 (naming 0 0 10) ≡ Done (record (naming 0 0 10) { timer_start = 7; timer_period = 10 }) []
-unfolding naming asleep first_state
+set_in_tick_7 : gate 7 0xf6 2 (calling 3 0 0 10) ≡ Done (record (behind (calling 0 0 0 10)) { timer_start = 7; timer_period = 10 }) []
+unfolding calling behind asleep first_state gated service
 set_in_tick_7 = refl
 
-period_is_bounded : eax (unit_after no_answer (set_timer 7 (naming 0 0 1000000001))).registers ≡ 0xffffffea
-unfolding naming asleep first_state
+period_is_bounded : gate 7 0xf6 2 (calling 3 0 0 1000000001) ≡ Done (behind (calling 0xffffffea 0 0 1000000001)) []
+unfolding calling behind asleep first_state gated service
 period_is_bounded = refl
 
--- a put of bytes 2 and 3; of more than 256; and of bytes outside, which leaves what was there before
-two_bytes_put : fifo_put asleep (naming 1 2 6) ≡ Calls (PutCall 6 (2 ∷ 3 ∷ [])) 0 (naming 1 2 6)
-unfolding naming asleep first_state first_outside
+-- a put of bytes 2 and 3; of none, which has no access; of more than 256; and of bytes outside, which leaves what was there before
+two_bytes_put : gate 9 0xf6 2 (calling 4 1 2 6) ≡ Calls (PutCall 6 (2 ∷ 3 ∷ [])) 0 (behind (calling 4 1 2 6))
+unfolding calling behind asleep first_state first_outside gated service
 two_bytes_put = refl
 
-put_is_bounded : eax (unit_after no_answer (fifo_put asleep (naming 0 257 6))).registers ≡ 0xffffffea
-unfolding naming asleep first_state
+nothing_put : gate 9 0xf6 2 (calling 4 4 0 6) ≡ Calls (PutCall 6 []) 0 (behind (calling 4 4 0 6))
+unfolding calling behind asleep first_state first_outside gated service
+nothing_put = refl
+
+put_is_bounded : gate 9 0xf6 2 (calling 4 4 257 6) ≡ Done (behind (calling 0xffffffea 4 257 6)) []
+unfolding calling behind asleep first_state gated service
 put_is_bounded = refl
 
-put_outside : fifo_put asleep (naming 3 2 6) ≡ Done (record asleep { mode = Stopped }) (Breach (Load 4) ∷ [])
-unfolding naming asleep first_state first_outside
+put_outside : gate 9 0xf6 2 (calling 4 3 2 6) ≡ Done (record (calling 4 3 2 6) { mode = Stopped }) (Breach (Load 4) ∷ [])
+unfolding calling asleep first_state first_outside gated service
 put_outside = refl
 
 -- a get of at most two bytes to address 1, and its reply
-two_bytes_asked : fifo_get asleep (naming 1 2 6) ≡ Calls (GetCall 6 2) 1 (naming 1 2 6)
-unfolding naming asleep first_state first_outside
+two_bytes_asked : gate 9 0xf6 2 (calling 5 1 2 6) ≡ Calls (GetCall 6 2) 1 (behind (calling 5 1 2 6))
+unfolding calling behind asleep first_state first_outside gated service
 two_bytes_asked = refl
 
-get_outside : fifo_get asleep (naming 4 1 6) ≡ Done (record asleep { mode = Stopped }) (Breach (Store 4) ∷ [])
-unfolding naming asleep first_state first_outside
+get_outside : gate 9 0xf6 2 (calling 5 4 1 6) ≡ Done (record (calling 5 4 1 6) { mode = Stopped }) (Breach (Store 4) ∷ [])
+unfolding calling asleep first_state first_outside gated service
 get_outside = refl
 
-bytes_of_the_reply : (replied (GetCall 6 2) 1 (record { result = pos 2; bytes = 8 ∷ 9 ∷ 10 ∷ [] }) asleep).side.bytes ≡ 1 ∷ 8 ∷ 9 ∷ 4 ∷ []
+bytes_of_the_reply : (after_reply (GetCall 6 2) 1 (record { result = pos 2; bytes = 8 ∷ 9 ∷ 10 ∷ [] }) asleep).side.bytes ≡ 1 ∷ 8 ∷ 9 ∷ 4 ∷ []
 unfolding asleep first_state
 bytes_of_the_reply = refl
 
-result_of_the_reply : eax (replied (PutCall 6 []) 0 (record { result = negsuc 10; bytes = [] }) asleep).registers ≡ 0xfffffff5
+result_of_the_reply : eax (after_reply (PutCall 6 []) 0 (record { result = negsuc 10; bytes = [] }) asleep).registers ≡ 0xfffffff5
 unfolding asleep first_state
 result_of_the_reply = refl
 
--- functions 3 to 5 are served, 2 and 6 aren't, and none is where there are no services
-served : is_served all_services 2 ∷ is_served all_services 3 ∷ is_served all_services 4 ∷ is_served all_services 5 ∷ is_served all_services 6 ∷ [] ≡ false ∷ true ∷ true ∷ true ∷ false ∷ []
-served = refl
+-- where there are no services, functions 3 to 5 are refused as a function 7 is, and 6 gives the tick
+without : ℕ → ℕ
+without function = eax (unit_after no_answer (gate 9 0xf6 2 (record (calling function 0 0 0) { services = no_services }))).registers
 
-not_served : is_served no_services 3 ∷ is_served no_services 4 ∷ is_served no_services 5 ∷ [] ≡ false ∷ false ∷ false ∷ []
+not_served : without 3 ∷ without 4 ∷ without 5 ∷ without 6 ∷ without 7 ∷ [] ≡ 0xffffffea ∷ 0xffffffea ∷ 0xffffffea ∷ 9 ∷ 0xffffffea ∷ []
+unfolding without calling asleep first_state gated service
 not_served = refl

@@ -1,5 +1,4 @@
 pub mod State
-pub mod Calls
 pub mod Unit
 pub mod Tick
 pub mod Run

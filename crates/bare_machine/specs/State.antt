@@ -12,20 +12,11 @@ use Rattle.line_kinds.specs.declared.kinds.Mode.{Mode}
 use Rattle.line_kinds.specs.declared.kinds.Mode.TheVariants.{Runs, Halted, Stopped}
 use Rattle.port_map.specs.SerialLine.{new_serial}
 use Rattle.line_kinds.specs.Calls.{Call}
-
--- which functions of the gate F6h are there beside the table, the mask and the time: the timer's, and the calls of FIFOs
-pub record Services : Type 0 where
-  pub timer : Bool
-  pub fifos : Bool
-
-abbrev pub all_services : Services
-all_services = record { timer = true; fifos = true }
-
-abbrev pub no_services : Services
-no_services = record { timer = false; fifos = false }
+use Rattle.soft_gates.specs.declared.calls.Services.{Services}
+pub use Rattle.soft_gates.specs.Calls.{all_services, no_services}
 
 -- bit 9 of its EFLAGS is the flag, and stands clear in its registers. `asked` is the set of lines that are asked of it. A timer of
--- period 0 is off; else line 0 is asked at its start and so many periods
+-- period 0 is off; else line 0 is asked at its start and so many periods. `services` says which functions of the gate F6h are there
 pub record Bare : Type 0 where
   pub registers : Registers
   pub side : Side

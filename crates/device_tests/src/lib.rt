@@ -12,6 +12,8 @@ mod dispatch;
 #[cfg(test)]
 mod entries;
 #[cfg(test)]
+mod gates;
+#[cfg(test)]
 mod held_lines;
 #[cfg(test)]
 mod ports;

@@ -1,3 +1,4 @@
 pub mod Events
 pub mod Rises
 pub mod Ticks
+pub mod Units

@@ -1,5 +1,5 @@
 -- What a machine holds, and the bare machine that it stands for.
-use Rattle.std.specs.Prelude.{ℕ, Option, Some, None, List, [], ◌∷◌, length}
+use Rattle.std.specs.Prelude.{ℕ, Option, Some, None, List, [], length}
 use Rattle.cpu_state.specs.declared.registers.Registers.{Registers}
 use Rattle.memory_model.specs.Side.{Side}
 use Rattle.flat_memory.specs.Parts.{Parts}
@@ -65,8 +65,3 @@ start_of memory entry = record { bytes = memory.guest; entry = entry; size = len
 abbrev pub unit_lines : UnitOutcome → List GLine
 unit_lines (Done after lines) = lines
 unit_lines (Calls call place after) = []
-
--- the line of a gate, if it has one, as a list
-abbrev pub listed : Option GLine → List GLine
-listed None = []
-listed (Some line) = line ∷ []

@@ -1,21 +1,21 @@
 // The fourth step of a tick: the guest's unit.
-ghost use Rattle.std.specs.Prelude.{◌≡◌, ◌≢◌, ◌≤◌, ◌<◌, ◌+◌, ◌^◌, ◌++◌, ℕ, [], ◌∷◌, length, if◌then◌else◌, None, IfSome};
+ghost use Rattle.std.specs.Prelude.{◌≡◌, ◌≢◌, ◌≤◌, ◌<◌, ◌^◌, ◌++◌, [], ◌∷◌, length, if◌then◌else◌, None, IfSome};
 ghost use Rattle.flat_memory.specs.Side.{side_at};
 ghost use Rattle.line_sets.specs.LineSet.{with_line};
 ghost use Rattle.port_map.specs.Serial.{rose};
 ghost use Rattle.port_map.specs.declared.owner.Owner.TheVariants as owner;
 ghost use Rattle.port_board.specs.Board.{accessed, rises_of};
-ghost use Rattle.breach_monitor.specs.GuestUnit.{answer_to, first_gate, last_gate};
-ghost use Rattle.i386_execute.specs.Unit.{address_behind};
+ghost use Rattle.breach_monitor.specs.GuestUnit.{first_gate, last_gate};
 ghost use Rattle.soft_flags.specs.SoftFlags.{HasTableIn, is_open};
 ghost use Rattle.pending_irqs.specs.Pending.{lowest_enabled};
 ghost use Rattle.soft_entry.specs.Entry.{entering};
-ghost use Rattle.soft_gates.specs.Gate.{gated, WhenOutside};
-ghost use Rattle.breach_monitor.specs.SerialUnit.{unit_at};
-ghost use Rattle.bare_machine.specs.State.{Done};
+ghost use Rattle.soft_gates.specs.Calls.{no_services};
+ghost use Rattle.soft_gates.specs.Gate.{gated};
+ghost use Rattle.soft_gates.specs.Outcome.{outcome_of, WhenOutside, IsOffered};
 ghost use Rattle.bare_machine.specs.Unit.{int_entry, asked_entry, gate as gate_of, instruction as instruction_of, guest_unit as guest_unit_of, use_kind, access_kind, breach_kind};
 ghost use Rattle.line_kinds.specs.declared.kinds.GLine.TheVariants.{Breach as BreachLine};
-ghost use Rattle.rt_core.specs.Machine.{guest_side, com1_of, bare_with, after_unit, listed, unit_lines};
+ghost use Rattle.rt_core.specs.Machine.{com1_of};
+ghost use Rattle.rt_core.specs.Unit.{parts, bare_over, CanBegin, Leaves, effect_on, Performs, LeavesBoard};
 
 use crate::Guest;
 use crate::devices::mark;
@@ -27,11 +27,17 @@ use port_board::Board;
 use port_map::Owner;
 use soft_entry::{Entry, enter};
 use soft_flags::SoftFlags;
-use soft_gates::{GateUnit, gate};
+use soft_gates::{GateUnit, Services, gate};
 use trace_lines::{BreachKind, GLine, Lines, Mode};
 
 /// The vector of the first interrupt line; that of line n is n above it.
 const FIRST_LINE: u8 = 0x20;
+
+/// As far as the machine is built, the guest has no timer and no FIFOs.
+const SERVICES: Services = Services {
+    timer: false,
+    fifos: false,
+};
 
 fn use_kind(kind: Privileged) -> BreachKind
     ensures { result ≡ use_kind kind }
@@ -70,14 +76,16 @@ fn breach_kind(breach: Breach) -> BreachKind
 // A unit of the processor over the guest's part of the memory and COM1.
 #[tactic(auto, unfolding(breach_monitor::specs::SerialUnit::unit_at))]
 fn run_unit(memory: &mut FlatMemory, registers: &mut Registers, board: &mut Board) -> GuestUnit
-    ensures answer { let side = guest_side memory.old in result ≡ answer_to registers.old.eip (address_behind registers.old side) (unit_at owner.Guest registers.old side (com1_of board.old)).answer }
-    ensures registers { registers.new ≡ (unit_at owner.Guest registers.old (guest_side memory.old) (com1_of board.old)).registers }
-    ensures side { guest_side memory.new ≡ (unit_at owner.Guest registers.old (guest_side memory.old) (com1_of board.old)).bus.side }
-    ensures board { board.new ≡ accessed owner.Guest (unit_at owner.Guest registers.old (guest_side memory.old) (com1_of board.old)).bus.devices board.old }
-    ensures real_time { memory.new.real_time ≡ memory.old.real_time }
-    ensures size { length memory.new.guest ≡ length memory.old.guest }
-    ensures unchanged { result ≢ GuestUnit.Next → (registers.new ≡ registers.old) × (memory.new ≡ memory.old) × (board.new ≡ board.old) }
-    ensures gate { (number next : ℕ) → result ≡ GuestUnit.Gate number next → (first_gate ≤ number) × (number ≤ last_gate) }
+    ensures performs {
+        Performs (effect_on memory.old registers.old board.old) result memory.old memory.new registers.old registers.new
+    }
+    ensures board {
+        board.new ≡ accessed owner.Guest (effect_on memory.old registers.old board.old).bus.devices board.old
+    }
+    ensures unchanged {
+        result ≢ GuestUnit.Next
+            → (registers.new ≡ registers.old) × (memory.new ≡ memory.old) × (board.new ≡ board.old)
+    }
 {
     unit_of_serial(Owner::Guest);
     unit_keeps_others(Owner::Guest);
@@ -92,17 +100,20 @@ fn perform(
     pending: &mut Pending,
 ) -> GuestUnit
     requires none_rose { rises_of board.old ≡ 0 }
-    ensures answer { let side = guest_side memory.old in result ≡ answer_to registers.old.eip (address_behind registers.old side) (unit_at owner.Guest registers.old side (com1_of board.old)).answer }
-    ensures registers { registers.new ≡ (unit_at owner.Guest registers.old (guest_side memory.old) (com1_of board.old)).registers }
-    ensures side { guest_side memory.new ≡ (unit_at owner.Guest registers.old (guest_side memory.old) (com1_of board.old)).bus.side }
-    ensures com1 { com1_of board.new ≡ (unit_at owner.Guest registers.old (guest_side memory.old) (com1_of board.old)).bus.devices }
-    ensures asked { pending.new ≡ (if rose (com1_of board.old) (com1_of board.new) then with_line pending.old 4 else pending.old) }
-    ensures board { board.new ≡ after_unit (com1_of board.new) board.old }
-    ensures none_rose { rises_of board.new ≡ 0 }
-    ensures real_time { memory.new.real_time ≡ memory.old.real_time }
-    ensures size { length memory.new.guest ≡ length memory.old.guest }
-    ensures unchanged { result ≢ GuestUnit.Next → (registers.new ≡ registers.old) × (memory.new ≡ memory.old) × (com1_of board.new ≡ com1_of board.old) × (pending.new ≡ pending.old) }
-    ensures gate { (number next : ℕ) → result ≡ GuestUnit.Gate number next → (first_gate ≤ number) × (number ≤ last_gate) }
+    ensures performs {
+        Performs (effect_on memory.old registers.old board.old) result memory.old memory.new registers.old registers.new
+    }
+    ensures com1 { com1_of board.new ≡ (effect_on memory.old registers.old board.old).bus.devices }
+    ensures asked {
+        pending.new
+            ≡ (if rose (com1_of board.old) (com1_of board.new) then with_line pending.old 4 else pending.old)
+    }
+    ensures board { LeavesBoard board.old board.new }
+    ensures unchanged {
+        result ≢ GuestUnit.Next
+            → (registers.new ≡ registers.old) × (memory.new ≡ memory.old)
+            × (com1_of board.new ≡ com1_of board.old) × (pending.new ≡ pending.old)
+    }
 {
     let unit = run_unit(memory, registers, board);
     mark(board.take_rises(), pending);
@@ -119,8 +130,13 @@ fn enter_on(
 ) -> Entry
     requires size { length bytes.old < 2 ^ 32 }
     requires table { HasTableIn soft.old (length bytes.old) }
-    ensures entering { record { entry = result; registers = registers.new; flags = soft.new; side = side_at 0 bytes.new } ≡ entering vector push registers.old soft.old (side_at 0 bytes.old) }
-    ensures unchanged { result ≢ Entry.Entered → (registers.new ≡ registers.old) × (soft.new ≡ soft.old) × (bytes.new ≡ bytes.old) }
+    ensures entering {
+        record { entry = result; registers = registers.new; flags = soft.new; side = side_at 0 bytes.new }
+            ≡ entering vector push registers.old soft.old (side_at 0 bytes.old)
+    }
+    ensures unchanged {
+        result ≢ Entry.Entered → (registers.new ≡ registers.old) × (soft.new ≡ soft.old) × (bytes.new ≡ bytes.old)
+    }
     ensures table { HasTableIn soft.new (length bytes.old) }
 {
     let mut side = Side::new(0, bytes);
@@ -140,57 +156,68 @@ fn gate_on(
     requires last { number ≤ last_gate }
     requires size { length bytes.old < 2 ^ 32 }
     requires table { HasTableIn soft.old (length bytes.old) }
-    ensures gated { record { came = result; registers = registers.new; flags = soft.new; side = side_at 0 bytes.new } ≡ gated number next now registers.old soft.old (side_at 0 bytes.old) }
-    ensures unchanged { WhenOutside result ((registers.new ≡ registers.old) × (soft.new ≡ soft.old) × (bytes.new ≡ bytes.old)) }
+    ensures gated {
+        record { came = outcome_of result; registers = registers.new; flags = soft.new; side = side_at 0 bytes.new }
+            ≡ gated number next now no_services registers.old soft.old (side_at 0 bytes.old)
+    }
+    ensures unchanged {
+        WhenOutside result ((registers.new ≡ registers.old) × (soft.new ≡ soft.old) × (bytes.new ≡ bytes.old))
+    }
+    ensures offered { IsOffered no_services (side_at 0 bytes.new) result }
     ensures table { HasTableIn soft.new (length bytes.old) }
 {
     let mut side = Side::new(0, bytes);
-    gate(number, next, now, registers, soft, &mut side)
+    gate(number, next, now, SERVICES, registers, soft, &mut side)
 }
 
-// A trap or an interrupt, with its line.
+// What isn't the next instruction has a line, mostly. Lines are rare: each is pushed where it is made, so that no tick without one makes
+// room for it.
+
+// A trap or an interrupt.
 fn enter_vector(
     vector: u8,
     push: u32,
     memory: &mut FlatMemory,
     registers: &mut Registers,
     guest: &mut Guest,
-) -> GLine
-    requires size { length memory.old.guest < 2 ^ 32 }
-    requires table { HasTableIn guest.old.soft (length memory.old.guest) }
+    lines: &mut Lines,
+)
+    requires can_begin { CanBegin (parts memory.old registers.old guest.old lines.old) }
     requires runs { guest.old.mode ≡ Mode.Runs }
-    ensures outcome { (com1 : _) → int_entry vector push (bare_with memory.old registers.old com1 guest.old) ≡ Done (bare_with memory.new registers.new com1 guest.new) (result ∷ []) }
-    ensures table { HasTableIn guest.new.soft (length memory.new.guest) }
-    ensures size { length memory.new.guest ≡ length memory.old.guest }
-    ensures real_time { memory.new.real_time ≡ memory.old.real_time }
+    ensures {
+        let old = parts memory.old registers.old guest.old lines.old in
+        let new = parts memory.new registers.new guest.new lines.new in
+        (com1 : _) → Leaves (int_entry vector push (bare_over old com1)) com1 old new
+    }
 {
     match enter_on(vector, push, registers, &mut guest.soft, memory.guest()) {
-        Entry::Entered => GLine::Int(u32::from(vector)),
+        Entry::Entered => lines.push_g(GLine::Int(u32::from(vector))),
         Entry::Shutdown => {
             guest.mode = Mode::Stopped;
-            GLine::Shutdown(u32::from(vector))
+            lines.push_g(GLine::Shutdown(u32::from(vector)));
         }
         Entry::Outside(at) => {
             guest.mode = Mode::Stopped;
-            GLine::Breach(BreachKind::Store(at))
+            lines.push_g(GLine::Breach(BreachKind::Store(at)));
         }
     }
 }
 
-// An asked line, with its line. Where it is entered, it is asked no more, and a halted guest runs.
+// An asked line. Where it is entered, it is asked no more, and a halted guest runs.
 fn enter_line(
     line: u8,
     memory: &mut FlatMemory,
     registers: &mut Registers,
     guest: &mut Guest,
-) -> GLine
+    lines: &mut Lines,
+)
     requires line { line < 32 }
-    requires size { length memory.old.guest < 2 ^ 32 }
-    requires table { HasTableIn guest.old.soft (length memory.old.guest) }
-    ensures outcome { (com1 : _) → asked_entry line (bare_with memory.old registers.old com1 guest.old) ≡ Done (bare_with memory.new registers.new com1 guest.new) (result ∷ []) }
-    ensures table { HasTableIn guest.new.soft (length memory.new.guest) }
-    ensures size { length memory.new.guest ≡ length memory.old.guest }
-    ensures real_time { memory.new.real_time ≡ memory.old.real_time }
+    requires can_begin { CanBegin (parts memory.old registers.old guest.old lines.old) }
+    ensures {
+        let old = parts memory.old registers.old guest.old lines.old in
+        let new = parts memory.new registers.new guest.new lines.new in
+        (com1 : _) → Leaves (asked_entry line (bare_over old com1)) com1 old new
+    }
 {
     let vector = FIRST_LINE + line;
     match enter_on(
@@ -203,20 +230,20 @@ fn enter_line(
         Entry::Entered => {
             guest.pending.clear(line);
             guest.mode = Mode::Runs;
-            GLine::Enter(u32::from(vector))
+            lines.push_g(GLine::Enter(u32::from(vector)));
         }
         Entry::Shutdown => {
             guest.mode = Mode::Stopped;
-            GLine::Shutdown(u32::from(vector))
+            lines.push_g(GLine::Shutdown(u32::from(vector)));
         }
         Entry::Outside(at) => {
             guest.mode = Mode::Stopped;
-            GLine::Breach(BreachKind::Store(at))
+            lines.push_g(GLine::Breach(BreachKind::Store(at)));
         }
     }
 }
 
-// A gate, with its line, if it has one.
+// A gate.
 fn perform_gate(
     number: u8,
     next: u32,
@@ -224,15 +251,16 @@ fn perform_gate(
     memory: &mut FlatMemory,
     registers: &mut Registers,
     guest: &mut Guest,
-) -> Option<GLine>
+    lines: &mut Lines,
+)
     requires first { first_gate ≤ number }
     requires last { number ≤ last_gate }
-    requires size { length memory.old.guest < 2 ^ 32 }
-    requires table { HasTableIn guest.old.soft (length memory.old.guest) }
-    ensures outcome { (com1 : _) → gate_of now number next (bare_with memory.old registers.old com1 guest.old) ≡ Done (bare_with memory.new registers.new com1 guest.new) (listed result) }
-    ensures table { HasTableIn guest.new.soft (length memory.new.guest) }
-    ensures size { length memory.new.guest ≡ length memory.old.guest }
-    ensures real_time { memory.new.real_time ≡ memory.old.real_time }
+    requires can_begin { CanBegin (parts memory.old registers.old guest.old lines.old) }
+    ensures {
+        let old = parts memory.old registers.old guest.old lines.old in
+        let new = parts memory.new registers.new guest.new lines.new in
+        (com1 : _) → Leaves (gate_of now number next (bare_over old com1)) com1 old new
+    }
 {
     match gate_on(
         number,
@@ -242,95 +270,19 @@ fn perform_gate(
         &mut guest.soft,
         memory.guest(),
     ) {
-        GateUnit::Finished => None,
+        GateUnit::Finished => {}
         GateUnit::Halted => {
             guest.mode = Mode::Halted;
-            Some(GLine::Halt)
+            lines.push_g(GLine::Halt);
         }
+        // Neither function is there.
+        GateUnit::Timer(_) => {}
+        GateUnit::Calls(_) => {}
         GateUnit::Outside(access, at) => {
             guest.mode = Mode::Stopped;
-            Some(GLine::Breach(access_kind(access, at)))
+            lines.push_g(GLine::Breach(access_kind(access, at)));
         }
     }
-}
-
-// Appends the line of a gate, if it has one.
-fn push_line(line: Option<GLine>, lines: &mut Lines)
-    requires { length lines.old.g ≤ 7 }
-    ensures { lines.new ≡ record lines.old { g = lines.old.g ++ listed line } }
-{
-    if let Some(line) = line {
-        lines.push_g(line);
-    }
-}
-
-// The same three, and what no guest may do, each with its line, which is rare: no tick without a line makes room for one.
-
-fn show_vector(
-    vector: u8,
-    push: u32,
-    memory: &mut FlatMemory,
-    registers: &mut Registers,
-    guest: &mut Guest,
-    lines: &mut Lines,
-)
-    requires size { length memory.old.guest < 2 ^ 32 }
-    requires table { HasTableIn guest.old.soft (length memory.old.guest) }
-    requires runs { guest.old.mode ≡ Mode.Runs }
-    requires room { length lines.old.g ≤ 7 }
-    ensures outcome { (com1 : _) → let came = int_entry vector push (bare_with memory.old registers.old com1 guest.old) in came ≡ Done (bare_with memory.new registers.new com1 guest.new) (unit_lines came) }
-    ensures lines { (com1 : _) → lines.new ≡ record lines.old { g = lines.old.g ++ unit_lines (int_entry vector push (bare_with memory.old registers.old com1 guest.old)) } }
-    ensures table { HasTableIn guest.new.soft (length memory.new.guest) }
-    ensures size { length memory.new.guest ≡ length memory.old.guest }
-    ensures real_time { memory.new.real_time ≡ memory.old.real_time }
-{
-    lines.push_g(enter_vector(vector, push, memory, registers, guest));
-}
-
-fn show_line(
-    line: u8,
-    memory: &mut FlatMemory,
-    registers: &mut Registers,
-    guest: &mut Guest,
-    lines: &mut Lines,
-)
-    requires line { line < 32 }
-    requires size { length memory.old.guest < 2 ^ 32 }
-    requires table { HasTableIn guest.old.soft (length memory.old.guest) }
-    requires room { length lines.old.g ≤ 7 }
-    ensures outcome { (com1 : _) → let came = asked_entry line (bare_with memory.old registers.old com1 guest.old) in came ≡ Done (bare_with memory.new registers.new com1 guest.new) (unit_lines came) }
-    ensures lines { (com1 : _) → lines.new ≡ record lines.old { g = lines.old.g ++ unit_lines (asked_entry line (bare_with memory.old registers.old com1 guest.old)) } }
-    ensures table { HasTableIn guest.new.soft (length memory.new.guest) }
-    ensures size { length memory.new.guest ≡ length memory.old.guest }
-    ensures real_time { memory.new.real_time ≡ memory.old.real_time }
-{
-    lines.push_g(enter_line(line, memory, registers, guest));
-}
-
-fn show_gate(
-    number: u8,
-    next: u32,
-    now: u32,
-    memory: &mut FlatMemory,
-    registers: &mut Registers,
-    guest: &mut Guest,
-    lines: &mut Lines,
-)
-    requires first { first_gate ≤ number }
-    requires last { number ≤ last_gate }
-    requires size { length memory.old.guest < 2 ^ 32 }
-    requires table { HasTableIn guest.old.soft (length memory.old.guest) }
-    requires room { length lines.old.g ≤ 7 }
-    ensures outcome { (com1 : _) → let came = gate_of now number next (bare_with memory.old registers.old com1 guest.old) in came ≡ Done (bare_with memory.new registers.new com1 guest.new) (unit_lines came) }
-    ensures lines { (com1 : _) → lines.new ≡ record lines.old { g = lines.old.g ++ unit_lines (gate_of now number next (bare_with memory.old registers.old com1 guest.old)) } }
-    ensures table { HasTableIn guest.new.soft (length memory.new.guest) }
-    ensures size { length memory.new.guest ≡ length memory.old.guest }
-    ensures real_time { memory.new.real_time ≡ memory.old.real_time }
-{
-    push_line(
-        perform_gate(number, next, now, memory, registers, guest),
-        lines,
-    );
 }
 
 fn show_breach(breach: Breach, lines: &mut Lines)
@@ -349,26 +301,23 @@ fn instruction(
     guest: &mut Guest,
     lines: &mut Lines,
 )
-    requires size { length memory.old.guest < 2 ^ 32 }
-    requires table { HasTableIn guest.old.soft (length memory.old.guest) }
+    requires can_begin { CanBegin (parts memory.old registers.old guest.old lines.old) }
     requires runs { guest.old.mode ≡ Mode.Runs }
     requires none_rose { rises_of board.old ≡ 0 }
-    requires room { length lines.old.g ≤ 7 }
-    ensures outcome { let came = instruction_of now (bare_with memory.old registers.old (com1_of board.old) guest.old) in came ≡ Done (bare_with memory.new registers.new (com1_of board.new) guest.new) (unit_lines came) }
-    ensures lines { lines.new ≡ record lines.old { g = lines.old.g ++ unit_lines (instruction_of now (bare_with memory.old registers.old (com1_of board.old) guest.old)) } }
-    ensures table { HasTableIn guest.new.soft (length memory.new.guest) }
-    ensures size { length memory.new.guest ≡ length memory.old.guest }
-    ensures real_time { memory.new.real_time ≡ memory.old.real_time }
-    ensures board { board.new ≡ after_unit (com1_of board.new) board.old }
-    ensures none_rose { rises_of board.new ≡ 0 }
+    ensures leaves {
+        let old = parts memory.old registers.old guest.old lines.old in
+        let new = parts memory.new registers.new guest.new lines.new in
+        Leaves (instruction_of now (bare_over old (com1_of board.old))) (com1_of board.new) old new
+    }
+    ensures board { LeavesBoard board.old board.new }
 {
     match perform(memory, registers, board, &mut guest.pending) {
         GuestUnit::Next => guest.soft.unit_done(),
         GuestUnit::Enter(vector, push) => {
-            show_vector(vector, push, memory, registers, guest, lines);
+            enter_vector(vector, push, memory, registers, guest, lines);
         }
         GuestUnit::Gate(number, next) => {
-            show_gate(number, next, now, memory, registers, guest, lines);
+            perform_gate(number, next, now, memory, registers, guest, lines);
         }
         GuestUnit::Breach(breach) => {
             guest.mode = Mode::Stopped;
@@ -379,7 +328,10 @@ fn instruction(
 
 // The line that is to be entered: the lowest that is asked and enabled, where the flag is set and no shadow stands.
 fn line_to_enter(guest: &Guest) -> Option<u8>
-    ensures line { result ≡ (if is_open guest.now.soft then lowest_enabled guest.now.pending guest.now.soft.mask else None) }
+    ensures line {
+        result
+            ≡ (if is_open guest.now.soft then lowest_enabled guest.now.pending guest.now.soft.mask else None)
+    }
     ensures below { IfSome result (λ n. n < 32) }
 {
     if guest.soft.may_enter() {
@@ -400,23 +352,20 @@ pub fn guest_unit(
     guest: &mut Guest,
     lines: &mut Lines,
 )
-    requires size { length memory.old.guest < 2 ^ 32 }
-    requires table { HasTableIn guest.old.soft (length memory.old.guest) }
+    requires can_begin { CanBegin (parts memory.old registers.old guest.old lines.old) }
     requires none_rose { rises_of board.old ≡ 0 }
-    requires room { length lines.old.g ≤ 7 }
-    ensures outcome { let came = guest_unit_of now (bare_with memory.old registers.old (com1_of board.old) guest.old) in came ≡ Done (bare_with memory.new registers.new (com1_of board.new) guest.new) (unit_lines came) }
-    ensures lines { lines.new ≡ record lines.old { g = lines.old.g ++ unit_lines (guest_unit_of now (bare_with memory.old registers.old (com1_of board.old) guest.old)) } }
-    ensures table { HasTableIn guest.new.soft (length memory.new.guest) }
-    ensures size { length memory.new.guest ≡ length memory.old.guest }
-    ensures real_time { memory.new.real_time ≡ memory.old.real_time }
-    ensures board { board.new ≡ after_unit (com1_of board.new) board.old }
-    ensures none_rose { rises_of board.new ≡ 0 }
+    ensures leaves {
+        let old = parts memory.old registers.old guest.old lines.old in
+        let new = parts memory.new registers.new guest.new lines.new in
+        Leaves (guest_unit_of now (bare_over old (com1_of board.old))) (com1_of board.new) old new
+    }
+    ensures board { LeavesBoard board.old board.new }
 {
     if guest.mode == Mode::Stopped {
         return;
     }
     if let Some(line) = line_to_enter(guest) {
-        return show_line(line, memory, registers, guest, lines);
+        return enter_line(line, memory, registers, guest, lines);
     }
     if guest.mode == Mode::Halted {
         return;

@@ -1,19 +1,24 @@
 -- A guest to which no services are given makes no calls.
-use Rattle.std.proofs.Common.{◌≡◌, ℕ, zero, suc, ◌+◌, ◌==◌, Bool, true, false, ◌&&◌, refl, sym, ap, ◌∙◌, List, [], ◌∷◌, ◌++◌, if◌then◌else◌, Option, Some, None}
+use Rattle.std.proofs.Common.{◌≡◌, ℕ, zero, suc, ◌+◌, ◌==◌, Bool, true, false, ◌&&◌, refl, sym, ap, ◌∙◌, List, [], ◌∷◌, ◌++◌, nat_lt, if◌then◌else◌, Option, Some, None}
 use Rattle.std.specs.List.{filter_map, cons_option}
-use Rattle.cpu_state.specs.Registers.{eax}
+use Rattle.cpu_state.specs.Registers.{eax, ebx, esp}
+use Rattle.cpu_state.specs.declared.registers.Registers.{Registers}
 use Rattle.i386_effects.specs.Effect.{Effect}
 use Rattle.i386_execute.specs.Unit.{address_behind}
 use Rattle.device_script.specs.declared.event.Event.{Event}
 use Rattle.breach_monitor.specs.GuestUnit.{answer_to}
 use Rattle.breach_monitor.specs.declared.guest.GuestUnit.{GuestUnit}
 use Rattle.breach_monitor.specs.declared.guest.GuestUnit.TheVariants.{Next, Enter as Enters, Gate, Breach as Breaches}
-use Rattle.soft_entry.specs.Entry.{Entering, entering}
+use Rattle.soft_entry.specs.Entry.{Entering, entering, below}
 use Rattle.soft_entry.specs.declared.entry.Entry.{Entry}
 use Rattle.soft_entry.specs.declared.entry.Entry.TheVariants.{Entered, Shutdown, Outside as OutsideEntry}
-use Rattle.soft_gates.specs.Gate.{Gated, gated}
-use Rattle.soft_gates.specs.declared.gates.GateUnit.{GateUnit}
-use Rattle.soft_gates.specs.declared.gates.GateUnit.TheVariants.{Finished, Halted, Outside as OutsideGate}
+use Rattle.soft_gates.specs.Gate.{Gated, gated, iret_by, popf_by, above}
+use Rattle.soft_gates.specs.Outcome.{GateOutcome, Finishes, Halts, SetsTimer, MakesCall, AccessOutside}
+use Rattle.soft_gates.specs.Service.{Served, set_timer, service}
+use Rattle.soft_gates.specs.declared.calls.Services.{Services}
+use Rattle.soft_flags.specs.declared.flags.SoftFlags.{SoftFlags}
+use Rattle.memory_model.specs.Side.{Side, inside, loaded}
+use Rattle.rt_constants.specs.declared.limits.TheConstants.{SPAN_LIMIT}
 use Rattle.line_kinds.specs.declared.kinds.BreachKind.{BreachKind}
 use Rattle.line_kinds.specs.declared.kinds.GLine.{GLine}
 use Rattle.line_kinds.specs.declared.kinds.GLine.TheVariants.{Enter, Int as IntLine}
@@ -27,11 +32,10 @@ use Rattle.line_kinds.specs.Calls.{Call, call_in}
 use Rattle.run_lines.specs.Calls.{with_call, calls_of}
 use Rattle.run_lines.specs.Says.{Sight, sight}
 use Rattle.run_lines.specs.Ticks.{at_tick, stamped, lines_to}
-use Rattle.bare_machine.specs.Calls.{breached, is_served, served_by, onward}
 use Rattle.bare_machine.specs.State.{Bare, GuestStart, UnitOutcome, Done, Calls, no_services, first_state, is_stopped, is_halted}
 use Rattle.bare_machine.specs.Tick.{com1_lines, prepared, guest_begins, tick_unit}
 use Rattle.bare_machine.specs.Run.{bare_after, bare_lines, bare_end, bare}
-use Rattle.bare_machine.specs.Unit.{enters, gates, own_gate, gate, came_to, instruction, line_to_enter, unless_entered, guest_unit, unit_lines, unit_after, breach_kind}
+use Rattle.bare_machine.specs.Unit.{entry_outcome, gate_outcome, gate, breached, instruction_outcome, instruction, line_to_enter, unless_entered, guest_unit, unit_lines, unit_after, breach_kind}
 
 -- no line is a call
 abbrev pub NoCall : List GLine → Type 0
@@ -45,35 +49,76 @@ Silent (Calls call place after) = ⊥
 breached_silent : (kind : BreachKind) (b : Bare) → b.services ≡ no_services → Silent (breached kind b)
 breached_silent kind b h = (h, refl)
 
-enters_silent : (line : GLine) (vector : ℕ) (before b : Bare) (e : Entering) (came : Entry) → NoCall (line ∷ []) → before.services ≡ no_services → b.services ≡ no_services → Silent (enters line vector before b e came)
-enters_silent line vector before b e Entered q f h = (h, q)
-enters_silent line vector before b e Shutdown q f h = (f, refl)
-enters_silent line vector before b e (OutsideEntry at) q f h = (f, refl)
+entry_silent : (line : GLine) (vector : ℕ) (before b : Bare) (e : Entering) (came : Entry) → NoCall (line ∷ []) → before.services ≡ no_services → b.services ≡ no_services → Silent (entry_outcome line vector before b e came)
+entry_silent line vector before b e Entered q f h = (h, q)
+entry_silent line vector before b e Shutdown q f h = (f, refl)
+entry_silent line vector before b e (OutsideEntry at) q f h = (f, refl)
 
-gates_silent : (b : Bare) (g : Gated) (came : GateUnit) → b.services ≡ no_services → Silent (gates b g came)
-gates_silent b g Finished h = (h, refl)
-gates_silent b g Halted h = (h, refl)
-gates_silent b g (OutsideGate access at) h = (h, refl)
+-- where there are no FIFOs, no gate makes a call
+abbrev makes_call : GateOutcome → Bool
+makes_call (MakesCall call place) = true
+makes_call _ = false
 
--- no function of the gate is served
-unserved : (b : Bare) (f : ℕ) → b.services ≡ no_services → is_served b.services f ≡ false
-unserved b f h = ap (λ s. is_served s f) h
+if_uncalled : (x : Bool) (u v : Served) → makes_call u.came ≡ false → makes_call v.came ≡ false → makes_call (if x then u else v).came ≡ false
+if_uncalled true u v p q = p
+if_uncalled false u v p q = q
 
-if_unserved : (x s : Bool) (u v : UnitOutcome) → s ≡ false → Silent v → Silent (if x && s then u else v)
+if_unserved : (x s : Bool) (u v : Served) → s ≡ false → makes_call v.came ≡ false → makes_call (if x && s then u else v).came ≡ false
 if_unserved true true u v h p = absurd cc
 if_unserved true false u v h p = p
 if_unserved false s u v h p = p
 
+service_uncalled : (side : Side) (next now : ℕ) (s : Services) (r : Registers) (f : SoftFlags) → s.fifos ≡ false → makes_call (service side next now s r f).came ≡ false
+unfolding service
+service_uncalled side next now s r f h =
+    if_uncalled (eax r == 1) _ _ refl (
+    if_uncalled (eax r == 2) _ _ refl (
+    if_uncalled (eax r == 3 && s.timer) (set_timer next r f) _ (if_uncalled (nat_lt SPAN_LIMIT (ebx r)) _ _ refl refl) (
+    if_unserved (eax r == 4) s.fifos _ _ h (
+    if_unserved (eax r == 5) s.fifos _ _ h (
+    if_uncalled (eax r == 6) _ _ refl refl)))))
+
+if_gate_uncalled : (x : Bool) (u v : Gated) → makes_call u.came ≡ false → makes_call v.came ≡ false → makes_call (if x then u else v).came ≡ false
+if_gate_uncalled true u v p q = p
+if_gate_uncalled false u v p q = q
+
+iret_uncalled : (eip segment word : Option ℕ) (r : Registers) (f : SoftFlags) (side : Side) → makes_call (iret_by eip segment word r f side).came ≡ false
+iret_uncalled None segment word r f side = refl
+iret_uncalled (Some eip) None word r f side = refl
+iret_uncalled (Some eip) (Some segment) None r f side = refl
+iret_uncalled (Some eip) (Some segment) (Some word) r f side = refl
+
+popf_uncalled : (word : Option ℕ) (next : ℕ) (r : Registers) (f : SoftFlags) (side : Side) → makes_call (popf_by word next r f side).came ≡ false
+popf_uncalled None next r f side = refl
+popf_uncalled (Some word) next r f side = refl
+
+gate_uncalled : (number next now : ℕ) (s : Services) (r : Registers) (f : SoftFlags) (side : Side) → s.fifos ≡ false → makes_call (gated number next now s r f side).came ≡ false
+unfolding gated
+gate_uncalled number next now s r f side h =
+    if_gate_uncalled (number == 0xf0) _ _ refl (
+    if_gate_uncalled (number == 0xf1) _ _ refl (
+    if_gate_uncalled (number == 0xf2) _ _ (iret_uncalled (loaded side (esp r) 4) (loaded side (above r 4) 4) (loaded side (above r 8) 4) r f side) (
+    if_gate_uncalled (number == 0xf3) _ _ (if_gate_uncalled (inside side (below (esp r) 4) 4) _ _ refl refl) (
+    if_gate_uncalled (number == 0xf4) _ _ (popf_uncalled (loaded side (esp r) 4) next r f side) (
+    if_gate_uncalled (number == 0xf5) _ _ refl (
+    service_uncalled side next now s r f h))))))
+
+gates_silent : (t : ℕ) (b : Bare) (g : Gated) (came : GateOutcome) → b.services ≡ no_services → makes_call came ≡ false → Silent (gate_outcome t b g came)
+gates_silent t b g Finishes h q = (h, refl)
+gates_silent t b g Halts h q = (h, refl)
+gates_silent t b g (SetsTimer period) h q = (h, refl)
+gates_silent t b g (MakesCall call place) h q = absurd cc
+gates_silent t b g (AccessOutside access at) h q = (h, refl)
+
 gate_silent : (t number next : ℕ) (b : Bare) → b.services ≡ no_services → Silent (gate t number next b)
 gate_silent t number next b h =
-    let g = gated number next t b.registers b.soft b.side in
-    if_unserved (number == 246) (is_served b.services (eax b.registers)) (served_by t (eax b.registers) b (onward next b)) (own_gate t number next b)
-    (unserved b (eax b.registers) h) (gates_silent b g g.came h)
+    let g = gated number next t b.services b.registers b.soft b.side in
+    gates_silent t b g g.came h (gate_uncalled number next t b.services b.registers b.soft b.side (ap (λ s. s.fifos) h))
 
-came_silent : (t : ℕ) (e : Effect Serial) (b : Bare) (u : GuestUnit) → b.services ≡ no_services → Silent (came_to t e b u)
+came_silent : (t : ℕ) (e : Effect Serial) (b : Bare) (u : GuestUnit) → b.services ≡ no_services → Silent (instruction_outcome t e b u)
 came_silent t e b Next h = (h, refl)
 came_silent t e b (Enters vector push) h =
-    let n = entering vector push b.registers b.soft b.side in enters_silent (IntLine vector) vector b b n n.entry refl h h
+    let n = entering vector push b.registers b.soft b.side in entry_silent (IntLine vector) vector b b n n.entry refl h h
 came_silent t e b (Gate number next) h = gate_silent t number next b h
 came_silent t e b (Breaches breach) h = breached_silent (breach_kind breach) b h
 
@@ -89,7 +134,7 @@ instruction_silent t b h =
 unless_silent : (t : ℕ) (b : Bare) (o : Option ℕ) → b.services ≡ no_services → Silent (unless_entered t b o)
 unless_silent t b (Some n) h =
     let e = entering (32 + n) b.registers.eip b.registers b.soft b.side in
-    enters_silent (Enter (32 + n)) (32 + n) b (record b { asked = without_line b.asked n }) e e.entry refl h h
+    entry_silent (Enter (32 + n)) (32 + n) b (record b { asked = without_line b.asked n }) e e.entry refl h h
 unless_silent t b None h = if_silent (is_halted b.mode) (Done b []) (instruction t b) (h, refl) (instruction_silent t b h)
 
 unit_silent : (t : ℕ) (b : Bare) → b.services ≡ no_services → Silent (guest_unit t b)

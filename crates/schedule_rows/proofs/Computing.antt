@@ -30,7 +30,8 @@ use Rattle.i386_execute.specs.Unit.{performed, unit, address_behind}
 use Rattle.port_map.specs.Serial.{byte_of, after_byte, byte_written}
 use Rattle.breach_monitor.specs.RealTimeUnit.{real_time}
 use Rattle.soft_entry.specs.Entry.{entering}
-use Rattle.soft_gates.specs.Gate.{service, gated}
+use Rattle.soft_gates.specs.Gate.{gated}
+use Rattle.soft_gates.specs.Service.{service}
 use Rattle.line_sets.specs.LineSet.{union, common, minus, with_line, without_line, first_in}
 use Rattle.rt_irqs.specs.Irqs.{next_of, free_soft_line}
 use Rattle.module_gates.specs.Names.{gate_of}

@@ -1,5 +1,7 @@
 -- The guest's flag and shadow, its mask of lines, and its descriptor table.
-use Rattle.std.specs.Prelude.{ℕ, ◌+◌, ◌-◌, ◌*◌, ◌^◌, ◌≤◌, Bool, false, not, ◌&&◌, ◌||◌, nat_lt, if◌then◌else◌, ℤ, pos, negsuc}
+use Rattle.std.specs.Prelude.{ℕ, ◌+◌, ◌-◌, ◌*◌, ◌^◌, ◌≤◌, Bool, false, not, ◌&&◌, ◌||◌, nat_lt, if◌then◌else◌, ℤ, pos}
+use Rattle.rt_constants.specs.Errors.{failed}
+use Rattle.rt_constants.specs.declared.errors.TheConstants.{EINVAL}
 use Rattle.soft_flags.specs.declared.flags.SoftFlags.{SoftFlags}
 
 abbrev pub first_flags : SoftFlags
@@ -13,9 +15,8 @@ is_open f = f.flag && not f.shadow
 abbrev pub loads_table : ℕ → ℕ → ℕ → Bool
 loads_table place entries size = not (nat_lt 256 entries || nat_lt size (place + 8 * entries))
 
--- 0, or Linux's EINVAL
 abbrev pub table_answer : ℕ → ℕ → ℕ → ℤ
-table_answer place entries size = if loads_table place entries size then pos 0 else negsuc 21
+table_answer place entries size = if loads_table place entries size then pos 0 else failed EINVAL
 
 abbrev pub with_table : ℕ → ℕ → ℕ → SoftFlags → SoftFlags
 with_table place entries size f = if loads_table place entries size then record f { idt = place; entries = entries } else f

@@ -2,8 +2,7 @@
 ghost use Rattle.std.specs.Prelude.{◌≡◌, true, false, not};
 ghost use Rattle.soft_flags.specs.SoftFlags.{first_flags, is_open, table_answer, with_table, HasTableIn};
 
-/// The refusal of an argument, as Linux numbers it.
-pub const EINVAL: i32 = 22;
+use rt_constants::{EINVAL, failed};
 
 /// The most entries of a descriptor table, one for each vector.
 const TABLE_ENTRIES: u32 = 256;
@@ -83,7 +82,7 @@ impl SoftFlags {
     {
         let end = u64::from(place) + DESCRIPTOR_SIZE * u64::from(entries);
         if entries > TABLE_ENTRIES || end > u64::from(size) {
-            return -EINVAL;
+            return failed(EINVAL);
         }
         self.idt = place;
         self.entries = entries;

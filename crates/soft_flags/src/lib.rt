@@ -4,4 +4,4 @@
 
 mod flags;
 
-pub use flags::{EINVAL, SoftFlags};
+pub use flags::SoftFlags;

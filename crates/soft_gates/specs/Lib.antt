@@ -1,1 +1,4 @@
+pub mod Calls
+pub mod Outcome
+pub mod Service
 pub mod Gate

@@ -1,10 +1,12 @@
 // The gates.
-ghost use Rattle.std.specs.Prelude.{◌≡◌, ◌≤◌, ◌<◌, ◌^◌, length};
+ghost use Rattle.std.specs.Prelude.{◌≡◌, ◌≤◌, ◌<◌, ◌+◌, ◌^◌, length};
 ghost use Rattle.cpu_state.specs.Eflags.{bit};
 ghost use Rattle.flat_memory.specs.Side.{side_of};
 ghost use Rattle.soft_flags.specs.SoftFlags.{HasTableIn};
-ghost use Rattle.soft_gates.specs.Gate.{gated, iret, pushf, popf, popped_flags, WhenOutside};
+ghost use Rattle.soft_gates.specs.Gate.{gated, iret, pushf, popf, popped_flags};
+ghost use Rattle.soft_gates.specs.Outcome.{outcome_of, WhenOutside, IsOffered};
 
+use crate::calls::{Call, Services};
 use crate::service::service;
 use cpu_state::{Access, ESP, Eflags, Registers};
 use flat_memory::Side;
@@ -24,12 +26,16 @@ const POPF: u8 = 0xf4;
 const HLT: u8 = 0xf5;
 
 /// What a gate comes to.
-#[derive(Clone, Copy, Debug, PartialEq, Eq)]
+#[derive(Clone, Copy, Debug)]
 pub enum GateUnit {
     /// The gate was performed.
     Finished,
     /// The gate was performed, and the guest is halted.
     Halted,
+    /// The guest's timer gets this period, in ticks; 0 stops it. The gate was performed.
+    Timer(u32),
+    /// A call on a FIFO. Its result is to be left by `reply`.
+    Calls(Call),
     /// The first access outside, and its address. Nothing changed.
     Outside(Access, u32),
 }
@@ -48,7 +54,7 @@ fn interrupt_flag(word: u32) -> bool
 }
 
 fn perform_iret(regs: &mut Registers, flags: &mut SoftFlags, side: &Side<'_>) -> GateUnit
-    ensures gated { record { came = result; registers = regs.new; flags = flags.new; side = side_of side.now } ≡ iret regs.old flags.old (side_of side.now) }
+    ensures gated { record { came = outcome_of result; registers = regs.new; flags = flags.new; side = side_of side.now } ≡ iret regs.old flags.old (side_of side.now) }
     ensures unchanged { WhenOutside result ((regs.new ≡ regs.old) × (flags.new ≡ flags.old)) }
     ensures same_table { (flags.new.idt ≡ flags.old.idt) × (flags.new.entries ≡ flags.old.entries) }
 {
@@ -79,7 +85,7 @@ fn perform_pushf(
     flags: &mut SoftFlags,
     side: &mut Side<'_>,
 ) -> GateUnit
-    ensures gated { record { came = result; registers = regs.new; flags = flags.new; side = side_of side.new } ≡ pushf next regs.old flags.old (side_of side.old) }
+    ensures gated { record { came = outcome_of result; registers = regs.new; flags = flags.new; side = side_of side.new } ≡ pushf next regs.old flags.old (side_of side.old) }
     ensures first { side.new.first ≡ side.old.first }
     ensures same_loan { side.new.bytes.ghost_name ≡ side.old.bytes.ghost_name }
     ensures unchanged { WhenOutside result ((regs.new ≡ regs.old) × (flags.new ≡ flags.old) × (side_of side.new ≡ side_of side.old)) }
@@ -97,7 +103,7 @@ fn perform_pushf(
 }
 
 fn perform_popf(next: u32, regs: &mut Registers, flags: &mut SoftFlags, side: &Side<'_>) -> GateUnit
-    ensures gated { record { came = result; registers = regs.new; flags = flags.new; side = side_of side.now } ≡ popf next regs.old flags.old (side_of side.now) }
+    ensures gated { record { came = outcome_of result; registers = regs.new; flags = flags.new; side = side_of side.now } ≡ popf next regs.old flags.old (side_of side.now) }
     ensures unchanged { WhenOutside result ((regs.new ≡ regs.old) × (flags.new ≡ flags.old)) }
     ensures same_table { (flags.new.idt ≡ flags.old.idt) × (flags.new.entries ≡ flags.old.entries) }
 {
@@ -115,20 +121,22 @@ fn perform_popf(next: u32, regs: &mut Registers, flags: &mut SoftFlags, side: &S
 }
 
 /// Performs the gate of a number, F0h to F6h, in tick `now`. EIP becomes `next`, the address behind the gate, or what iret
-/// pops. Where an access is outside, nothing changes.
+/// pops. Where an access is outside, nothing changes. `services` says which functions of F6h are there; the others are refused.
 #[tactic(auto, unfolding(crate::specs::Gate::gated))]
 pub fn gate(
     number: u8,
     next: u32,
     now: u32,
+    services: Services,
     regs: &mut Registers,
     flags: &mut SoftFlags,
     side: &mut Side<'_>,
 ) -> GateUnit
     requires first { 0xf0 ≤ number }
     requires last { number ≤ 0xf6 }
-    requires size { length (side_of side.old).bytes < 2 ^ 32 }
-    ensures gated { record { came = result; registers = regs.new; flags = flags.new; side = side_of side.new } ≡ gated number next now regs.old flags.old (side_of side.old) }
+    requires size { (side_of side.old).first + length (side_of side.old).bytes < 2 ^ 32 }
+    ensures gated { record { came = outcome_of result; registers = regs.new; flags = flags.new; side = side_of side.new } ≡ gated number next now services regs.old flags.old (side_of side.old) }
+    ensures offered { IsOffered services (side_of side.new) result }
     ensures first { side.new.first ≡ side.old.first }
     ensures same_loan { side.new.bytes.ghost_name ≡ side.old.bytes.ghost_name }
     ensures unchanged { WhenOutside result ((regs.new ≡ regs.old) × (flags.new ≡ flags.old) × (side_of side.new ≡ side_of side.old)) }
@@ -153,9 +161,6 @@ pub fn gate(
             flags.unit_done();
             GateUnit::Halted
         }
-        _ => {
-            service(next, now, side.size(), regs, flags);
-            GateUnit::Finished
-        }
+        _ => service(next, now, services, regs, flags, side),
     }
 }

@@ -1,4 +1,5 @@
 use Rattle.std.proofs.Common.{◌∙◌, ap}
+use Rattle.port_board.specs.Board.{rises_of}
 use Rattle.rt_core.specs.Machine.{com1_of}
 use Rattle.rt_core.proofs.Rises.{unit_marks, unit_board, unmarked}
 use Rattle.rt_core.proofs.unit.perform.Goals as goal
@@ -7,7 +8,10 @@ pub returns-clause-asked : goal.returns-clause-asked
 returns-clause-asked c = rw (c.mark.ensures, c.take_rises.ensures.lines, c.take_rises.ensures.after) (unit_marks c.args.board.now _ _ c.args.pending.now c.run_unit-unit.ensures.board c.requires.none_rose)
 
 pub returns-clause-board : goal.returns-clause-board
-returns-clause-board c = unit_board c.args.board.now _ _ _ c.run_unit-unit.ensures.board c.take_rises.ensures.after
+returns-clause-board c = record {
+  board = unit_board c.args.board.now _ _ _ c.run_unit-unit.ensures.board c.take_rises.ensures.after;
+  none_rose = ap rises_of c.take_rises.ensures.after;
+}
 
 pub returns-clause-unchanged : goal.returns-clause-unchanged
 returns-clause-unchanged c = λ other.

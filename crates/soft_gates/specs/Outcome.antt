@@ -1,0 +1,36 @@
+-- What a gate comes to.
+use Rattle.std.specs.Prelude.{ℕ, IsTrue}
+use Rattle.memory_model.specs.Side.{Side}
+use Rattle.cpu_state.specs.declared.registers.Access.{Access}
+use Rattle.line_kinds.specs.Calls.{Call}
+use Rattle.soft_gates.specs.Calls.{call_of, place_of, IsBounded}
+use Rattle.soft_gates.specs.declared.calls.Services.{Services}
+use Rattle.soft_gates.specs.declared.gates.GateUnit.{GateUnit}
+use Rattle.soft_gates.specs.declared.gates.GateUnit.TheVariants.{Finished, Halted, Timer, Calls, Outside}
+
+-- it is done; the guest is halted as well; the guest's timer gets a period; there is a call on a FIFO, and the bytes of a get go to a
+-- place; or an access is outside
+pub data GateOutcome : Type 0 where
+  Finishes : GateOutcome
+  Halts : GateOutcome
+  SetsTimer : (period : ℕ) → GateOutcome
+  MakesCall : (call : Call) (place : ℕ) → GateOutcome
+  AccessOutside : (access : Access) (at : ℕ) → GateOutcome
+
+abbrev pub outcome_of : GateUnit → GateOutcome
+outcome_of Finished = Finishes
+outcome_of Halted = Halts
+outcome_of (Timer period) = SetsTimer period
+outcome_of (Calls call) = MakesCall (call_of call) (place_of call)
+outcome_of (Outside access at) = AccessOutside access at
+
+-- a fact where an access was outside
+abbrev pub WhenOutside : GateUnit → Type 0 → Type 0
+WhenOutside (Outside access at) P = P
+WhenOutside _ P = Unit {0}
+
+-- only functions that are there set the timer or call, and a call is bounded
+abbrev pub IsOffered : Services → Side → GateUnit → Type 0
+IsOffered services side (Timer period) = IsTrue services.timer
+IsOffered services side (Calls call) = IsTrue services.fifos × IsBounded side call
+IsOffered services side _ = Unit {0}
