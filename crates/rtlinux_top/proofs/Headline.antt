@@ -23,12 +23,18 @@ use Rattle.line_kinds.specs.declared.kinds.GLine.{GLine}
 use Rattle.line_kinds.specs.declared.kinds.GLine.TheVariants.{Memory}
 use Rattle.line_kinds.specs.declared.kinds.Line.{Line}
 use Rattle.line_kinds.specs.declared.kinds.Line.TheVariants.{G}
+use Rattle.line_kinds.specs.declared.kinds.RLine.{RLine}
+use Rattle.run_lines.specs.Calls.{calls_of}
 use Rattle.run_lines.specs.Ticks.{stamped, lines_to}
+use Rattle.run_output.specs.Halves.{found, guest_in, real_time_in}
+use Rattle.schedule_laws.specs.Laws.{IsSolution}
+use Rattle.schedule_laws.proofs.Printed.{loses_nothing}
+use Rattle.run_stream.specs.Start.{guest_start}
 use Rattle.side_digest.specs.Digest.{digest}
 use Rattle.bare_machine.specs.Run.{end_line}
 use Rattle.run_stream.specs.Lines.{text_of, guest_lines, bare_at, shown_at, shown_to, lines_shown}
 use Rattle.rtlinux_top.specs.Run.{flat_run}
-use Rattle.rtlinux_top.specs.Solution.{WritesSolution, guest_alone, shown_of, guest_shown, real_shown}
+use Rattle.rtlinux_top.specs.Solution.{WritesSolution, HasHalves, guest_alone, shown_of, quiet_start, guest_shown, real_shown}
 use Rattle.rtlinux_top.specs.Answers.{AnswersTo}
 use Rattle.rtlinux_top.specs.Verdict.{verdict_of, output_of, flat_in}
 use Rattle.rtlinux_top.specs.Words.{Asked, Unknown, Flat, System}
@@ -121,10 +127,27 @@ shown_whole : (which : Shown) (run : AcceptedRun) → lines_shown which run ≡ 
 shown_whole Guest run = shows_alone run
 shown_whole Both run = shows_output run
 
+-- and each half finds its lines in it
+
+found_alone : (lines : List (ℕ × GLine)) → found guest_in (map (λ (line : ℕ × GLine). (line.0, G line.1)) lines) ≡ lines
+found_alone [] = refl
+found_alone (line ∷ lines) = ap (λ rest. line ∷ rest) (found_alone lines)
+
+halves : (which : Shown) (run : AcceptedRun) (g : List (ℕ × GLine)) (r : List (ℕ × RLine)) → IsSolution (guest_start run) (quiet_start run) run.script.events run.ticks g r → HasHalves which (shown_of which run g r) g r
+halves Guest run g r s = found_alone (take (length g - 1) g)
+halves Both run g r s =
+    (loses_nothing.of_guest false (guest_start run) (quiet_start run) run.script.events run.ticks r (calls_of g) ∙ sym s.guest_half,
+    loses_nothing.of_real false (guest_start run) (quiet_start run) run.script.events run.ticks r (calls_of g) ∙ sym s.real_half)
+
 writes : (verdict : Verdict) (old new : Option (List ℕ)) → ((run : AcceptedRun) → verdict ≡ Ok run → 1 ≤ run.ticks) → new ≡ appended old (output_of verdict)
     → WritesSolution verdict old new
 writes (Ok run) old new some told =
-    (guest_shown run, (real_shown run, (shows run (some run refl), told ∙ ap (λ lines. appended old (text_of lines)) (shown_whole run.shown run))))
+    let s = shows run (some run refl) in
+    (guest_shown run, (real_shown run, record {
+      solution = s;
+      halves = halves run.shown run (guest_shown run) (real_shown run) s;
+      text = told ∙ ap (λ lines. appended old (text_of lines)) (shown_whole run.shown run);
+    }))
 writes (Err about) old new some told = tt
 
 pub headline : (held : Option Files) (asked : Asked) (result : Status) (old new : Option (List ℕ)) → AnswersTo asked held result old new

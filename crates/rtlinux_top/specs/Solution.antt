@@ -7,6 +7,7 @@ use Rattle.line_kinds.specs.declared.kinds.Line.TheVariants.{G}
 use Rattle.line_kinds.specs.declared.kinds.RLine.{RLine}
 use Rattle.run_lines.specs.Calls.{calls_of}
 use Rattle.run_lines.specs.Ticks.{stamped, lines_to}
+use Rattle.run_output.specs.Halves.{found, guest_in, real_time_in}
 use Rattle.schedule_laws.specs.Output.{run_output}
 use Rattle.bare_machine.specs.Run.{bare, bare_end}
 use Rattle.priority_schedule.specs.State.{RealTimeStart}
@@ -63,9 +64,18 @@ abbrev pub shown_of : Shown → AcceptedRun → List (ℕ × GLine) → List (�
 shown_of Guest run g r = guest_alone g
 shown_of Both run g r = run_output false (guest_start run) (quiet_start run) run.script.events run.ticks r (calls_of g)
 
--- what was written for an accepted run is the text of what is shown of the one pair of lines that meets both equations
+-- each half finds its lines among those that are shown, and no others: both of them all, or the guest alone its own but the last
+abbrev pub HasHalves : Shown → List (ℕ × Line) → List (ℕ × GLine) → List (ℕ × RLine) → Type 0
+HasHalves Guest lines g r = found guest_in lines ≡ take (length g - 1) g
+HasHalves Both lines g r = (found guest_in lines ≡ g) × (found real_time_in lines ≡ r)
+
+-- a pair of lines is the solution of a run, and what was written is the text of what is shown of it
+pub record IsWritten (run : AcceptedRun) (g : List (ℕ × GLine)) (r : List (ℕ × RLine)) (old new : Option (List ℕ)) : Type 0 where
+  pub solution : IsSolution (guest_start run) (quiet_start run) run.script.events run.ticks g r
+  pub halves : HasHalves run.shown (shown_of run.shown run g r) g r
+  pub text : new ≡ appended old (text_of (shown_of run.shown run g r))
+
+-- for an accepted run that is so of the one pair of lines that meets both equations
 abbrev pub WritesSolution : Verdict → Option (List ℕ) → Option (List ℕ) → Type 0
-WritesSolution (Ok run) old new =
-    (g : List (ℕ × GLine)) × ((r : List (ℕ × RLine)) × (IsSolution (guest_start run) (quiet_start run) run.script.events run.ticks g r
-    × (new ≡ appended old (text_of (shown_of run.shown run g r)))))
+WritesSolution (Ok run) old new = (g : List (ℕ × GLine)) × ((r : List (ℕ × RLine)) × IsWritten run g r old new)
 WritesSolution (Err about) old new = Unit {0}

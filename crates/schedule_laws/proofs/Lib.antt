@@ -11,3 +11,4 @@ mod Calm
 mod Served
 mod Drains
 mod ReadyLists
+pub mod Printed
