@@ -1,8 +1,8 @@
 -- The laws of the dues.
-use Rattle.std.proofs.Common.{◌≡◌, ℕ, ◌+◌, ◌<◌, ◌≤◌, Bool, true, false, nat_lt, min, cond, ltb, refl, sym, arith, List, [], ◌∷◌, All, length, get_or, Option, Some, None, IfSome}
+use Rattle.std.proofs.Common.{◌≡◌, ℕ, ◌+◌, ◌≤◌, true, false, min, cond, ltb, refl, arith, List, [], ◌∷◌, All, get_or, Option, Some, None, IfSome}
 use Rattle.std.proofs.lemmas.Bool.{ltb-true, ltb-false}
 use Rattle.std.proofs.lemmas.List.Elements.{All-cons, All-nil}
-use Rattle.rt_timeline.specs.Dues.{Dues, due_in, earlier, earlier_due, nearest_due, nearest_from, time_of}
+use Rattle.rt_timeline.specs.Dues.{Dues, due_in, earlier, earlier_due, nearest_from, time_of}
 use Rattle.rt_timeline.specs.Laws.{AtMostEach, IsNearest}
 use Rattle.rt_timeline.specs.declared.timeline.ThreadDue.{ThreadDue}
 

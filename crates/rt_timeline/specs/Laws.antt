@@ -1,5 +1,5 @@
 -- Laws of the dues: the nearest is at most each, and there is one wherever there is a due.
-use Rattle.std.specs.Prelude.{◌≡◌, ℕ, ◌≤◌, List, All, Option, Some, None, IfSome}
+use Rattle.std.specs.Prelude.{◌≡◌, ℕ, ◌≤◌, All, Option, Some, None, IfSome}
 use Rattle.rt_timeline.specs.Dues.{Dues, nearest_due}
 
 -- it is at most each due, or where it is none there is no due
