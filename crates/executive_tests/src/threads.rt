@@ -24,8 +24,11 @@ fn a_periodic_thread_waits_from_due_to_due(rt: HostRuntime) -> Result<(), Fail> 
 #[test]
 fn the_lowest_free_number_is_taken(rt: HostRuntime) -> Result<(), Fail> {
     let mut threads = Threads::new(rt.alloc()).ok().ok_or("no memory")?;
-    for number in 0..64 {
-        assert_eq!(rt; threads.create(number as u32, Context::new(0x1000, 0x2000)), number);
+    for number in 0..64u32 {
+        assert_eq!(rt;
+            threads.create(number, Context::new(0x1000, 0x2000)),
+            number as i32
+        );
     }
     assert_eq!(rt; threads.create(256, Context::new(0, 0)), -22);
     assert_eq!(rt; threads.create(255, Context::new(0, 0)), -11);

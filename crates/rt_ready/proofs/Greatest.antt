@@ -1,5 +1,5 @@
 -- The laws of the order.
-use Rattle.std.proofs.Common.{◌≡◌, ℕ, ◌<◌, ◌≤◌, Bool, true, false, not, ◌||◌, ◌&&◌, cond, ◌==◌, nat_lt, refl, sym, ◌∙◌, arith, List, [], ◌∷◌, Option, Some, None, IfSome, All, find, fold, subst}
+use Rattle.std.proofs.Common.{◌≡◌, ℕ, ◌≤◌, Bool, true, false, not, ◌||◌, ◌&&◌, cond, ◌==◌, nat_lt, refl, ◌∙◌, arith, List, [], ◌∷◌, Some, None, IfSome, All, find, fold}
 use Rattle.std.proofs.lemmas.Bool.{ltb-false}
 use Rattle.std.proofs.lemmas.Bool.Decides.{nat_tests}
 use Rattle.std.proofs.lemmas.List.Elements.{All-cons, All-nil}
@@ -12,9 +12,9 @@ use Rattle.rt_ready.specs.declared.ready.Place.{Place}
 found : (test : Place → Bool) (P : Place → Type 0) (ps : List Place) → ((p : Place) → test p ≡ true → P p) → IfSome (find test ps) P
 found test P [] h = tt
 found test P (q ∷ ps) h = elim (test q) as (λ b. test q ≡ b → IfSome (cond b (Some q) (find test ps)) P) [
-    | true ↦ λ e. h q e
-    | false ↦ λ e. found test P ps h
-  ] refl
+  | true ↦ λ e. h q e
+  | false ↦ λ e. found test P ps h
+] refl
 
 not_true : (b : Bool) → not b ≡ true → b ≡ false
 not_true false h = refl
@@ -27,7 +27,7 @@ unbeaten version p P (q ∷ ps) h k = All-cons P q ps (h q (or_left (goes_before
 pub is_greatest : IsGreatest
 unfolding first_place
 is_greatest version ps = found (λ a. not (is_beaten_in version ps a)) (λ p. All (λ q. q.priority ≤ p.priority) ps) ps
-  (λ p h. unbeaten version p (λ q. q.priority ≤ p.priority) ps (λ q k. ltb-false p.priority q.priority (or_left (nat_lt p.priority q.priority) _ k)) (not_true (is_beaten_in version ps p) h))
+    (λ p h. unbeaten version p (λ q. q.priority ≤ p.priority) ps (λ q k. ltb-false p.priority q.priority (or_left (nat_lt p.priority q.priority) _ k)) (not_true (is_beaten_in version ps p) h))
 
 later : (pp qp ps qs : ℕ) → (nat_lt pp qp || (pp == qp && nat_lt qs ps)) ≡ false → qp ≡ pp → ps ≤ qs
 later pp qp ps qs h e = grind (arith, nat_tests)
@@ -35,7 +35,7 @@ later pp qp ps qs h e = grind (arith, nat_tests)
 pub is_longest_ready : IsLongestReady
 unfolding first_place
 is_longest_ready ps = found (λ a. not (is_beaten_in 2 ps a)) (λ p. All (λ q. q.priority ≡ p.priority → p.since ≤ q.since) ps) ps
-  (λ p h. unbeaten 2 p (λ q. q.priority ≡ p.priority → p.since ≤ q.since) ps (λ q k e. later p.priority q.priority p.since q.since k e) (not_true (is_beaten_in 2 ps p) h))
+    (λ p h. unbeaten 2 p (λ q. q.priority ≡ p.priority → p.since ≤ q.since) ps (λ q k e. later p.priority q.priority p.since q.since k e) (not_true (is_beaten_in 2 ps p) h))
 
 stays_some : (version : ℕ) (a : Place) (ps : List Place) → fold (better_of version) (Some a) ps ≡ None → ⊥
 stays_some version a [] h = absurd cc
