@@ -45,7 +45,8 @@ pub record MeetsEffect {A : Type 0} (next came : A) (effect : EffectOf A Board) 
   pub registers : after.registers ≡ effect.registers
   pub state : state_of after ≡ effect.bus
   -- nothing but a performed unit changes anything
-  pub unchanged : came ≢ next → (after.registers ≡ before.registers) × (after.bytes ≡ before.bytes) × (after.board ≡ before.board)
+  pub unchanged : came ≢ next
+      → (after.registers ≡ before.registers) × (after.bytes ≡ before.bytes) × (after.board ≡ before.board)
   -- no unit moves the side or changes its size
   pub place : after.first ≡ before.first
   pub size : length after.bytes ≡ length before.bytes
@@ -56,22 +57,27 @@ pub record MeetsEffect {A : Type 0} (next came : A) (effect : EffectOf A Board) 
 -- a unit of the guest, and the numbers of the gates that it may come to
 abbrev pub IsGuestUnit : GuestUnit → Reached → Reached → Type 0
 IsGuestUnit answer before after =
-    MeetsEffect guest_unit.Next answer (guest (ports_of Guest) before.registers (state_of before)) before after
+    let effect = guest (ports_of Guest) before.registers (state_of before) in
+    MeetsEffect guest_unit.Next answer effect before after
 
 abbrev pub HasSoftGate : GuestUnit → Type 0
-HasSoftGate answer = (number next : ℕ) → answer ≡ guest_unit.Gate number next → (first_gate ≤ number) × (number ≤ last_gate)
+HasSoftGate answer =
+    (number next : ℕ) → answer ≡ guest_unit.Gate number next → (first_gate ≤ number) × (number ≤ last_gate)
 
 -- a unit of a real-time activity
 abbrev pub IsRealTimeUnit : RealTimeUnit → Reached → Reached → Type 0
 IsRealTimeUnit answer before after =
-    MeetsEffect real_time_unit.Next answer (real_time (ports_of RealTime) before.registers (state_of before)) before after
+    let effect = real_time (ports_of RealTime) before.registers (state_of before) in
+    MeetsEffect real_time_unit.Next answer effect before after
 
 -- one whose instruction, of so many bytes, is on the registers' own interrupt flag
 abbrev pub IsFlagUse : Privileged → ℕ → RealTimeUnit → Reached → Reached → Type 0
 IsFlagUse kind n answer before after =
-    MeetsEffect real_time_unit.Next answer (on_flag (ports_of RealTime) kind n before.registers (state_of before)) before after
+    let effect = on_flag (ports_of RealTime) kind n before.registers (state_of before) in
+    MeetsEffect real_time_unit.Next answer effect before after
 
 -- one whose instruction, of so many bytes, is on the hard interrupt flag, or HLT
 abbrev pub IsPrivilegedUse : Privileged → ℕ → RealTimeUnit → Reached → Reached → Type 0
 IsPrivilegedUse kind n answer before after =
-    MeetsEffect real_time_unit.Next answer (privileged_use (ports_of RealTime) kind n before.registers (state_of before)) before after
+    let effect = privileged_use (ports_of RealTime) kind n before.registers (state_of before) in
+    MeetsEffect real_time_unit.Next answer effect before after
