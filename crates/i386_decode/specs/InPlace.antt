@@ -1,15 +1,23 @@
 -- What is read into a form that stands in a place of its own.
 use Rattle.std.specs.Prelude.{ℕ, ◌+◌, List, [], ◌∷◌, length, drop, Bool, false}
+use Rattle.cpu_state.specs.declared.op.Op.TheVariants.{Hlt}
+use Rattle.cpu_state.specs.declared.width.Width.TheVariants.{W32}
 use Rattle.i386_decode.specs.Fields.{is_prefix, displacement_size, immediate_size, form_of}
 use Rattle.i386_decode.specs.Spelling.{entry_of}
 use Rattle.i386_decode.specs.Reading.{number, finish, opcode_at, entry_read}
 use Rattle.i386_decode.specs.declared.row.Row.{Row}
+use Rattle.i386_decode.specs.declared.form.Operand.TheVariants.{Absent}
 use Rattle.i386_decode.specs.declared.form.Repeat.{Repeat}
+use Rattle.i386_decode.specs.declared.form.Repeat.TheVariants.{Once}
 use Rattle.i386_decode.specs.declared.form.Form.{Form}
 use Rattle.i386_decode.specs.declared.form.Extent.{Extent}
 use Rattle.i386_decode.specs.declared.form.Extent.TheVariants as extent
 use Rattle.i386_decode.specs.declared.form.Decoded.{Decoded}
 use Rattle.i386_decode.specs.declared.form.Decoded.TheVariants as decoded
+
+-- a form to be filled: HLT, which has no operands
+abbrev pub unfilled : Form
+unfilled = record { op = Hlt; width = W32; first = Absent; second = Absent; third = Absent; repeat = Once }
 
 -- what an extent and the form beside it say together
 abbrev pub decoded_by : Extent → Form → Decoded

@@ -1,4 +1,6 @@
 // What bytes mean.
+ghost use Rattle.std.specs.Prelude.{◌≡◌};
+ghost use Rattle.i386_decode.specs.InPlace.{unfilled};
 
 use cpu_state::{Op, Width};
 
@@ -49,8 +51,10 @@ pub struct Form {
 }
 
 impl Form {
-    /// A form to be filled.
-    pub fn new() -> Form {
+    /// A form to be filled: HLT, which has no operands.
+    pub fn new() -> Form
+        ensures { result ≡ unfilled }
+    {
         Form {
             op: Op::Hlt,
             width: Width::W32,
