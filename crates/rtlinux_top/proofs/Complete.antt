@@ -1,5 +1,5 @@
 -- An answer without a fault and without want of memory is one that the words and the files determine.
-use Rattle.std.proofs.Common.{◌≡◌, ◌≢◌, ℕ, List, Option, refl}
+use Rattle.std.proofs.Common.{◌≢◌, ℕ, List, Option, refl}
 use Rattle.outside_io.specs.Causes.{Rose}
 use Rattle.outside_io.specs.Store.{Files}
 use Rattle.rtlinux_top.specs.declared.last.Last.{Last}

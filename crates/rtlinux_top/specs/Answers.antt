@@ -6,7 +6,7 @@ use Rattle.outside_io.specs.Store.{Files}
 use Rattle.run_files.specs.declared.cause.Cause.TheVariants as cause
 use Rattle.run_files.specs.declared.run.AcceptedRun.{AcceptedRun}
 use Rattle.run_files.specs.Line.{refusal_text}
-use Rattle.run_files.specs.Verdict.{About, Verdict}
+use Rattle.run_files.specs.Verdict.{Verdict}
 use Rattle.run_request.specs.Open.{NamesFile}
 use Rattle.run_request.specs.Request.{HasTicks}
 use Rattle.run_stream.specs.Writes.{AppendsPart}

@@ -1,5 +1,5 @@
 -- What is to be answered and written, from the words and from what each name holds.
-use Rattle.std.specs.Prelude.{ℕ, List, [], length, nat_lt, true, false, if◌then◌else◌, Option, Some, None, Result, Ok, Err}
+use Rattle.std.specs.Prelude.{ℕ, List, [], length, nat_lt, if◌then◌else◌, Some, Result, Ok, Err}
 use Rattle.outside_io.specs.Store.{Files}
 use Rattle.run_files.specs.declared.cause.Cause.{Cause}
 use Rattle.run_files.specs.declared.cause.Cause.TheVariants as cause

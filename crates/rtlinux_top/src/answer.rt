@@ -27,20 +27,16 @@ fn answer<S: Store, K: Sink>(
     sink: &mut K,
     last: &mut Last,
 ) -> Status
-    ensures course {
-        IsCourse (command_of words.now.items) (S.held store.old) (S.faults store.old) (S.faults store.new) (S.failed_last store.new)
-            (K.written sink.old) (K.written sink.new) (K.faults sink.old) (K.faults sink.new) last.new result
-    }
-    ensures kept {
-        HasRun result → (run : AcceptedRun) × Runs (command_of words.now.items) (S.held store.old) result
-            (K.written sink.old) (K.written sink.new) last.new run
-    }
-    ensures after_write {
-        result ≡ Status.Outside Device.Write → IfSome (S.held store.old) (λ files.
-            WritesPart (command_of words.now.items) files (K.written sink.old) (K.written sink.new)
-            ⊎ (ReadFailed (command_of words.now.items) (S.held store.old) (S.faults store.old) (S.faults store.new) (S.failed_last store.new)
-                × WritesPartOfLine (S.failed_last store.new) (K.written sink.old) (K.written sink.new)))
-    }
+    ensures course { IsCourse (command_of words.now.items) (S.held store.old)
+        (S.faults store.old) (S.faults store.new) (S.failed_last store.new)
+        (K.written sink.old) (K.written sink.new) (K.faults sink.old) (K.faults sink.new) last.new result }
+    ensures kept { HasRun result → (run : AcceptedRun) × Runs (command_of words.now.items) (S.held store.old) result
+        (K.written sink.old) (K.written sink.new) last.new run }
+    ensures after_write { result ≡ Status.Outside Device.Write → IfSome (S.held store.old) (λ files.
+        WritesPart (command_of words.now.items) files (K.written sink.old) (K.written sink.new)
+        ⊎ (ReadFailed (command_of words.now.items) (S.held store.old)
+        (S.faults store.old) (S.faults store.new) (S.failed_last store.new)
+        × WritesPartOfLine (S.failed_last store.new) (K.written sink.old) (K.written sink.new))) }
 {
     match read_request(alloc, words.as_slice(), store) {
         Ok(run) => run_accepted(alloc, run, sink, last),
@@ -71,58 +67,48 @@ pub fn rtlinux<S: Store, K: Sink>(
     sink: &mut K,
     last: &mut Last,
 ) -> Status
-    // The headline: the guest's lines that `run` writes are those of the bare machine on the image beside the real-time lines, and these are
-    // those of the priority schedule beside the guest's calls. One pair of lines meets both.
-    ensures headline {
-        IsDetermined result → IfSome (S.held store.old) (λ files.
-            WritesSolution (verdict_of (command_of words.now.items) files) (K.written sink.old) (K.written sink.new))
-    }
+    // The headline: the guest's lines that `run` writes are those of the bare machine on the image beside the real-time lines, and
+    // these are those of the priority schedule beside the guest's calls. One pair of lines meets both.
+    ensures headline { IsDetermined result → IfSome (S.held store.old) (λ files.
+        WritesSolution (verdict_of (command_of words.now.items) files) (K.written sink.old) (K.written sink.new)) }
 
     // What the words and the files determine: the answer, and all that is written.
-    ensures told {
-        IsDetermined result → AnswersTo (command_of words.now.items) (S.held store.old) result (K.written sink.old) (K.written sink.new)
-    }
-    ensures complete {
-        ¬ Rose (S.faults store.old) (S.faults store.new) → ¬ Rose (K.faults sink.old) (K.faults sink.new) → result ≢ Status.NoMemory
-        → AnswersTo (command_of words.now.items) (S.held store.old) result (K.written sink.old) (K.written sink.new)
-    }
+    ensures told { IsDetermined result
+        → AnswersTo (command_of words.now.items) (S.held store.old) result (K.written sink.old) (K.written sink.new) }
+    ensures complete { ¬ Rose (S.faults store.old) (S.faults store.new) → ¬ Rose (K.faults sink.old) (K.faults sink.new)
+        → result ≢ Status.NoMemory
+        → AnswersTo (command_of words.now.items) (S.held store.old) result (K.written sink.old) (K.written sink.new) }
 
     // What the words alone determine, whatever the store tells: refused words and ticks, with their lines.
-    ensures early { IsDetermined result → AnswersWords (command_of words.now.items) result (K.written sink.old) (K.written sink.new) }
+    ensures early { IsDetermined result
+        → AnswersWords (command_of words.now.items) result (K.written sink.old) (K.written sink.new) }
     ensures usage { result ≡ Status.Usage → command_of words.now.items ≡ Unknown }
     ensures ticks { result ≡ refused_of 40 0 → RefusesTicks (command_of words.now.items) }
 
     // A fault outside comes only where its count rose, and none is passed over.
-    ensures read {
-        result ≡ Status.Outside Device.Read
-        → ReadFailed (command_of words.now.items) (S.held store.old) (S.faults store.old) (S.faults store.new) (S.failed_last store.new)
-    }
-    ensures read_text {
-        result ≡ Status.Outside Device.Read
-        → K.written sink.new ≡ appended (K.written sink.old) (refusal_text Cause.Read (S.failed_last store.new))
-    }
+    ensures read { result ≡ Status.Outside Device.Read
+        → ReadFailed (command_of words.now.items) (S.held store.old)
+        (S.faults store.old) (S.faults store.new) (S.failed_last store.new) }
+    ensures read_text { result ≡ Status.Outside Device.Read
+        → K.written sink.new ≡ appended (K.written sink.old) (refusal_text Cause.Read (S.failed_last store.new)) }
     ensures write { result ≡ Status.Outside Device.Write → Rose (K.faults sink.old) (K.faults sink.new) }
     ensures sink_fault { K.faults sink.old < K.faults sink.new → result ≡ Status.Outside Device.Write }
-    ensures store_fault {
-        S.faults store.old < S.faults store.new → (result ≡ Status.Outside Device.Read) ⊎ (result ≡ Status.Outside Device.Write)
-    }
+    ensures store_fault { S.faults store.old < S.faults store.new
+        → (result ≡ Status.Outside Device.Read) ⊎ (result ≡ Status.Outside Device.Write) }
     // After a failed put a first part of the output was written, or of the line of a file that couldn't be read.
-    ensures after_write {
-        result ≡ Status.Outside Device.Write → IfSome (S.held store.old) (λ files.
-            WritesPart (command_of words.now.items) files (K.written sink.old) (K.written sink.new)
-            ⊎ (ReadFailed (command_of words.now.items) (S.held store.old) (S.faults store.old) (S.faults store.new) (S.failed_last store.new)
-                × WritesPartOfLine (S.failed_last store.new) (K.written sink.old) (K.written sink.new)))
-    }
+    ensures after_write { result ≡ Status.Outside Device.Write → IfSome (S.held store.old) (λ files.
+        WritesPart (command_of words.now.items) files (K.written sink.old) (K.written sink.new)
+        ⊎ (ReadFailed (command_of words.now.items) (S.held store.old)
+        (S.faults store.old) (S.faults store.new) (S.failed_last store.new)
+        × WritesPartOfLine (S.failed_last store.new) (K.written sink.old) (K.written sink.new))) }
 
     // Want of memory writes nothing, and no real-time activity is there to fault.
     ensures memory { result ≡ Status.NoMemory → K.written sink.new ≡ K.written sink.old }
     ensures no_rt_fault { result ≢ Status.RtFault }
 
     // The run of such an answer, whatever the store tells, and its machine.
-    ensures kept {
-        HasRun result → (run : AcceptedRun) × Runs (command_of words.now.items) (S.held store.old) result
-            (K.written sink.old) (K.written sink.new) last.new run
-    }
+    ensures kept { HasRun result → (run : AcceptedRun) × Runs (command_of words.now.items) (S.held store.old) result
+        (K.written sink.old) (K.written sink.new) last.new run }
     ensures dropped { ¬ HasRun result → last.new ≡ Last.Nothing }
 {
     answer(alloc, words, store, sink, last)

@@ -18,12 +18,7 @@ use run_request::{fetch_file, no_script, request_run};
 use std::alloc::Global;
 
 // The run of a flat image of these bytes.
-fn accept_flat(
-    alloc: Global,
-    name: &[u8],
-    image: &[u8],
-    ticks: u32,
-) -> Result<AcceptedRun, Refusal>
+fn accept_flat(alloc: Global, name: &[u8], image: &[u8], ticks: u32) -> Result<AcceptedRun, Refusal>
     requires { length name.now ≤ 255 }
     ensures exact { Accepts result (about name.now (flat_in ticks image.now)) }
     ensures ready { IfOk result IsReady }
@@ -99,9 +94,8 @@ fn request_system<S: Store>(
     words: &[String],
     store: &mut S,
 ) -> Result<AcceptedRun, Refusal>
-    ensures told {
-        IfSome (S.held store.old) (λ files. Tells result (verdict_of (run_asked (run_words_of (texts words.now))) files))
-    }
+    ensures told { IfSome (S.held store.old) (λ files.
+        Tells result (verdict_of (run_asked (run_words_of (texts words.now))) files)) }
     ensures words { FollowsWords result (asked_ticks (run_asked (run_words_of (texts words.now)))) }
     ensures unread { IfUnread result (NamesFileOf (run_asked (run_words_of (texts words.now))) (S.held store.old)) }
     ensures ready { IfOk result IsReady }
@@ -116,7 +110,8 @@ fn is_word(a: &[u8], b: &[u8]) -> bool
     a == b
 }
 
-/// What the words and the store's files come to: the first refusal in the order of the words, the ticks and the files, or else the run.
+/// What the words and the store's files come to: the first refusal in the order of the words, the ticks and the files, or else
+/// the run.
 #[tactic(auto, unfolding(crate::specs::Words::asked_of, crate::specs::Verdict::verdict_of))]
 pub fn read_request<S: Store>(
     alloc: Global,

@@ -29,12 +29,12 @@ pub fn run_accepted<K: Sink>(
     ensures kept { HasRun result → KeepsMachine run last.new }
     ensures dropped { ¬ HasRun result → last.new ≡ Last.Nothing }
     ensures write { result ≡ Status.Outside Device.Write → Rose (K.faults sink.old) (K.faults sink.new) }
-    ensures part {
-        result ≡ Status.Outside Device.Write → AppendsPart (K.written sink.old) (K.written sink.new) (output_of (Ok run))
-    }
+    ensures part { result ≡ Status.Outside Device.Write
+        → AppendsPart (K.written sink.old) (K.written sink.new) (output_of (Ok run)) }
     ensures fault { K.faults sink.old < K.faults sink.new → result ≡ Status.Outside Device.Write }
     ensures memory { result ≡ Status.NoMemory → K.written sink.new ≡ K.written sink.old }
-    ensures others { (result ≢ Status.Usage) × (result ≢ Status.RtFault) × (result ≢ Status.Outside Device.Read) × (result ≢ refused_of 40 0) }
+    ensures others { (result ≢ Status.Usage) × (result ≢ Status.RtFault)
+        × (result ≢ Status.Outside Device.Read) × (result ≢ refused_of 40 0) }
 {
     *last = Last::Nothing;
     match run_streaming(alloc, run, sink) {

@@ -54,8 +54,8 @@ fn alone(name: &[u8], system: System) -> Result<System, Refusal>
     }
 }
 
-/// Reads the image of a system, of this name, and puts it on the guest's side of a memory with the system's sizes. The real-time side
-/// has its stub.
+/// Reads the image of a system, of this name, and puts it on the guest's side of a memory with the system's sizes. The real-time
+/// side has its stub.
 #[tactic(auto, unfolding(crate::specs::Files::sides_in))]
 pub fn accept_image(
     alloc: Global,

@@ -1,5 +1,5 @@
-//! What `run` comes to before anything runs: what each file holds, or why it is refused; both sides of memory with the image on the
-//! guest's and the stub on the other; and the line of a refusal. Files are bytes here; who fetches them stands above.
+//! What `run` comes to before anything runs: what each file holds, or why it is refused; both sides of memory with the image
+//! on the guest's and the stub on the other; and the line of a refusal. Files are bytes here; who fetches them stands above.
 #![tactic(auto)]
 
 mod accept;

@@ -19,9 +19,8 @@ pub fn request_run<S: Store>(
     words: &[String],
     store: &mut S,
 ) -> Result<AcceptedRun, Refusal>
-    ensures told {
-        IfSome (S.held store.old) (λ files. Tells result (run_verdict (run_words_of (map string_bytes words.now)) files))
-    }
+    ensures told { IfSome (S.held store.old) (λ files.
+        Tells result (run_verdict (run_words_of (map string_bytes words.now)) files)) }
     ensures words { FollowsWords result (run_ticks (run_words_of (map string_bytes words.now))) }
     ensures unread { IfUnread result (NamesFileOf (run_words_of (map string_bytes words.now)) (S.held store.old)) }
     ensures ready { IfOk result IsReady }

@@ -71,9 +71,8 @@ pub fn run_streaming<K: Sink>(
 ) -> Result<Finished, RunFault>
     requires ready { IsReady run }
     requires limit { run.ticks ≤ 1000000000 }
-    ensures written {
-        Writes (K.written sink.old) (K.written sink.new) (K.faults sink.old) (K.faults sink.new) (text_of (run_shown run)) result
-    }
+    ensures written { Writes (K.written sink.old) (K.written sink.new) (K.faults sink.old) (K.faults sink.new)
+        (text_of (run_shown run)) result }
     ensures breach { IfOk result (λ finished. finished.breach ≡ has_breach (run_shown run)) }
     ensures machine { IfOk result (λ finished. HasRunTo run run.ticks finished.machine) }
 {

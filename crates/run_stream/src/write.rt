@@ -32,10 +32,8 @@ fn real_time_piece(tick: u32, line: &RLine) -> LineText
 
 // Writes G lines, each with one put. A fault ends it.
 fn write_guest<K: Sink>(sink: &mut K, tick: u32, lines: &[GLine]) -> Result<(), SinkFault>
-    ensures {
-        Puts (K.written sink.old) (K.written sink.new) (K.faults sink.old) (K.faults sink.new)
-            (guest_text tick lines.now) result
-    }
+    ensures { Puts (K.written sink.old) (K.written sink.new) (K.faults sink.old) (K.faults sink.new)
+        (guest_text tick lines.now) result }
 {
     for line in lines {
         if let Err(fault) = sink.put(guest_piece(tick, line).as_bytes()) {
@@ -47,10 +45,8 @@ fn write_guest<K: Sink>(sink: &mut K, tick: u32, lines: &[GLine]) -> Result<(), 
 
 // Writes R lines, each with one put. A fault ends it.
 fn write_real_time<K: Sink>(sink: &mut K, tick: u32, lines: &[RLine]) -> Result<(), SinkFault>
-    ensures {
-        Puts (K.written sink.old) (K.written sink.new) (K.faults sink.old) (K.faults sink.new)
-            (real_time_text tick lines.now) result
-    }
+    ensures { Puts (K.written sink.old) (K.written sink.new) (K.faults sink.old) (K.faults sink.new)
+        (real_time_text tick lines.now) result }
 {
     for line in lines {
         if let Err(fault) = sink.put(real_time_piece(tick, line).as_bytes()) {
@@ -67,10 +63,8 @@ fn write_both<K: Sink>(
     real_time: &[RLine],
     guest: &[GLine],
 ) -> Result<(), SinkFault>
-    ensures {
-        Puts (K.written sink.old) (K.written sink.new) (K.faults sink.old) (K.faults sink.new)
-            (real_time_text tick real_time.now ++ guest_text tick guest.now) result
-    }
+    ensures { Puts (K.written sink.old) (K.written sink.new) (K.faults sink.old) (K.faults sink.new)
+        (real_time_text tick real_time.now ++ guest_text tick guest.now) result }
 {
     match write_real_time(sink, tick, real_time) {
         Ok(()) => write_guest(sink, tick, guest),
@@ -79,11 +73,14 @@ fn write_both<K: Sink>(
 }
 
 // Writes the lines that are shown.
-fn write_lines<K: Sink>(sink: &mut K, tick: u32, shown: Shown, lines: &Lines) -> Result<(), SinkFault>
-    ensures {
-        Puts (K.written sink.old) (K.written sink.new) (K.faults sink.old) (K.faults sink.new)
-            (tick_text tick (shown_lines shown lines.now.r lines.now.g)) result
-    }
+fn write_lines<K: Sink>(
+    sink: &mut K,
+    tick: u32,
+    shown: Shown,
+    lines: &Lines,
+) -> Result<(), SinkFault>
+    ensures { Puts (K.written sink.old) (K.written sink.new) (K.faults sink.old) (K.faults sink.new)
+        (tick_text tick (shown_lines shown lines.now.r lines.now.g)) result }
 {
     match shown {
         Shown::Guest => write_guest(sink, tick, lines.g()),
@@ -98,10 +95,8 @@ pub fn write_tick<K: Sink>(
     shown: Shown,
     lines: &Lines,
 ) -> Result<(), SinkFault>
-    ensures {
-        Puts (K.written sink.old) (K.written sink.new) (K.faults sink.old) (K.faults sink.new)
-            (tick_text tick (shown_lines shown lines.now.r lines.now.g)) result
-    }
+    ensures { Puts (K.written sink.old) (K.written sink.new) (K.faults sink.old) (K.faults sink.new)
+        (tick_text tick (shown_lines shown lines.now.r lines.now.g)) result }
 {
     // most ticks have no line
     if lines.r().is_empty() && lines.g().is_empty() {
@@ -117,10 +112,8 @@ pub fn write_ends<K: Sink>(
     shown: Shown,
     ends: &EndLines,
 ) -> Result<(), SinkFault>
-    ensures {
-        Puts (K.written sink.old) (K.written sink.new) (K.faults sink.old) (K.faults sink.new)
-            (tick_text tick (ends_among shown ends.now.r ends.now.g)) result
-    }
+    ensures { Puts (K.written sink.old) (K.written sink.new) (K.faults sink.old) (K.faults sink.new)
+        (tick_text tick (ends_among shown ends.now.r ends.now.g)) result }
 {
     match shown {
         Shown::Guest => write_guest(sink, tick, &ends.g[..1]),
