@@ -4,7 +4,7 @@
 use Rattle.std.specs.Prelude.{ℕ, suc, zero, ◌+◌, ◌-◌, ◌*◌, ◌/◌, ◌==◌, Bool, true, false, not, List, [], ◌∷◌, ◌++◌, map, filter, fold, if◌then◌else◌, Option, Some, None}
 use Rattle.std.specs.List.{range_with_len}
 use Rattle.line_sets.specs.LineSet.{has, with_line, without_line}
-use Rattle.pic_8259.specs.Boot.{acknowledge_order}
+use Rattle.hard_dispatch.specs.Service.{in_order}
 use Rattle.rt_irqs.specs.Irqs.{is_held, handler_order}
 use Rattle.rt_constants.specs.declared.lines.TheConstants.{TIMER_LINE, COM1_LINE, COM2_LINE}
 use Rattle.device_script.specs.declared.event.Event.{Event}
@@ -117,7 +117,7 @@ acknowledged t released s =
 
 abbrev pub drain_step : ℕ → Bool → Machines → Marking → Marking
 drain_step t draining released s =
-    if draining then acknowledged t released (record s { lines = s.lines ++ map Ack (filter (has s.hardware.latch) acknowledge_order) })
+    if draining then acknowledged t released (record s { lines = s.lines ++ map Ack (in_order s.hardware.latch) })
     else s
 
 -- 3. The unit: its edges, and then the latched line whose owner it changed is acknowledged. A unit changes the owner of one line at

@@ -14,7 +14,7 @@ use Rattle.line_sets.proofs.LineSetLemmas.{has-with_same, has-with_other, has-wi
 use Rattle.line_sets.specs.LineSet.{has, with_line, without_line}
 use Rattle.device_script.specs.declared.event.Event.{Event}
 use Rattle.priority_schedule.specs.Pick.{pick}
-use Rattle.pic_8259.specs.Boot.{acknowledge_order}
+use Rattle.hard_dispatch.specs.Service.{in_order}
 use Rattle.rt_irqs.specs.Irqs.{handler_order}
 use Rattle.hardware_lines.specs.Timely.{Ahead, Timely, IsTimely}
 use Rattle.rt_constants.specs.declared.limits.TheConstants.{THREADS_LIMIT}
@@ -212,7 +212,7 @@ after_drain t false before chosen s h closed same = record {
       (subst (λ n. Timely (has s.hardware.latch 0) s.hardware.rise t n) (sym (closed refl)) h.timely);
 }
 after_drain t true before chosen s h closed same =
-    let acks : List HLine = s.lines ++ map Ack (filter (has s.hardware.latch) acknowledge_order) in
+    let acks : List HLine = s.lines ++ map Ack (in_order s.hardware.latch) in
     let cleared : Hardware = record s.hardware { latch = 0 } in
     let noted : Hardware = record s.hardware { latch = 0; last = t } in
     let set : Marking = with_set t (nearest_due t chosen) (record { hardware = noted; lines = acks }) in
@@ -374,7 +374,7 @@ drained_calm k events before h s few open_ =
     let threads : chosen.real.threads ≡ (drained true t x).real.threads =
         picked_threads (drains before.real) (drained (drains before.real) t x) ∙ ap (λ b. (drained b t x).real.threads) open_ in
     let size : length x.real.threads ≤ THREADS_LIMIT = subst (λ ts. length ts ≤ THREADS_LIMIT) (sym (device_threads events before.real)) few in
-    let acks : List HLine = d.lines ++ map Ack (filter (has d.hardware.latch) acknowledge_order) in
+    let acks : List HLine = d.lines ++ map Ack (in_order d.hardware.latch) in
     let noted : Hardware = record d.hardware { latch = 0; last = t } in
     let cleared : Hardware = record d.hardware { latch = 0 } in
     let set : Marking = with_set t (nearest_due t chosen) (record { hardware = noted; lines = acks }) in

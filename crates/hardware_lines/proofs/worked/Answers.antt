@@ -1,5 +1,6 @@
 use Rattle.std.proofs.Common.{refl}
 use Rattle.line_sets.specs.LineSet.{with_line, without_line}
+use Rattle.hard_dispatch.specs.Service.{in_order}
 use Rattle.bare_machine.specs.State.{first_state as first_bare}
 use Rattle.priority_schedule.specs.Release.{nearest}
 use Rattle.priority_schedule.specs.State.{first_state as first_real}
@@ -14,11 +15,11 @@ unfolding timed first_bare first_real nearest
 returns-clause-guest_dues c = record { first = refl; between = refl; next = refl; off = refl }
 
 pub returns-clause-edges : goal.returns-clause-edges
-unfolding with_line
+unfolding with_line in_order
 returns-clause-edges c = record { edges = refl; latch = refl; acks = refl; emptied = refl; closed = refl }
 
 pub returns-clause-served : goal.returns-clause-served
-unfolding timed first_bare first_real nearest
+unfolding timed first_bare first_real nearest in_order
 returns-clause-served c = refl
 
 pub returns-clause-taken : goal.returns-clause-taken
