@@ -14,7 +14,13 @@ const ALL: Services = Services {
 const EINVAL: u32 = 0xffff_ffea;
 
 // A guest of 16 bytes, 0 to 15, calls a function with EBX 6, ECX and EDX as given, and goes on at address 2.
-fn called(function: u32, ebx: u32, ecx: u32, edx: u32, services: Services) -> (GateUnit, Registers) {
+fn called(
+    function: u32,
+    ebx: u32,
+    ecx: u32,
+    edx: u32,
+    services: Services,
+) -> (GateUnit, Registers) {
     let mut bytes = [0, 1, 2, 3, 4, 5, 6, 7, 8, 9, 10, 11, 12, 13, 14, 15];
     let mut regs = Registers::new(0, 16);
     regs.general[0] = function;

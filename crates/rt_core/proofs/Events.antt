@@ -107,8 +107,8 @@ pub record Taken (t : ℕ) (whole rest : Events) (into : List Event) (count : �
   pub coming : AreComing (t + 1) rest
   pub few : count ≤ 16
 
-pub taken : (t : ℕ) (whole rest : Events) (into : List Event) (count : ℕ) → Taking t whole rest into count → comes t rest ≡ false → Taken t whole rest into count
-taken t whole rest into count k none =
+pub taking_ends : (t : ℕ) (whole rest : Events) (into : List Event) (count : ℕ) → Taking t whole rest into count → comes t rest ≡ false → Taken t whole rest into count
+taking_ends t whole rest into count k none =
     let left = none_left t rest k.coming none in
     let room = k.room in
     record {

@@ -1,4 +1,5 @@
 pub mod Machine
+pub mod Devices
 pub mod Unit
 pub mod Pick
 pub mod Coming

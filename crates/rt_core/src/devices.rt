@@ -1,12 +1,10 @@
 // The first step of a tick: the devices.
-ghost use Rattle.std.specs.Prelude.{◌≡◌, [], if◌then◌else◌};
-ghost use Rattle.line_sets.specs.LineSet.{union, minus, with_line};
-ghost use Rattle.port_map.specs.Serial.{rose};
-ghost use Rattle.port_board.specs.Board.{AreEvents, device_step, rises_of};
-ghost use Rattle.port_map.specs.SerialLine.{ticked, byte_sent, all_received, sampled};
-ghost use Rattle.device_script.specs.Events.{lines_of, com1_bytes};
-ghost use Rattle.run_lines.specs.Says.{lines_asked};
+ghost use Rattle.std.specs.Prelude.{◌≡◌, []};
+ghost use Rattle.line_sets.specs.LineSet.{union, minus};
+ghost use Rattle.port_board.specs.Board.{AreEvents};
+ghost use Rattle.port_map.specs.SerialLine.{byte_sent};
 ghost use Rattle.bare_machine.specs.Tick.{com1_lines};
+ghost use Rattle.rt_core.specs.Devices.{Stepped};
 ghost use Rattle.rt_core.specs.Machine.{com1_of};
 
 use device_script::Event;
@@ -25,15 +23,12 @@ pub fn mark(lines: u16, pending: &mut Pending)
     pending.mark_all(u32::from(minus16(lines, NOT_THE_GUESTS)));
 }
 
-// The board takes a tick and the script's events of it. The lines that rise are marked for the guest, and the byte that leaves COM1 is
-// given.
+// The board takes a tick and the script's events of it. The lines that rise are marked for the guest, and the byte that
+// leaves COM1 is given.
 #[tactic(auto, unfolding(port_map::specs::SerialLine::byte_sent))]
 fn step_board(events: &[Event], board: &mut Board, pending: &mut Pending) -> Option<u8>
     requires { AreEvents events.now }
-    ensures com1 { com1_of board.new ≡ sampled (all_received (com1_bytes events.now) (ticked (com1_of board.old))) }
-    ensures asked { pending.new ≡ union (if rose (com1_of board.old) (com1_of board.new) then with_line pending.old 4 else pending.old) (lines_asked 0 (lines_of events.now)) }
-    ensures rises { rises_of board.new ≡ rises_of board.old }
-    ensures board { board.new ≡ (device_step events.now board.old).board }
+    ensures stepped { Stepped events.now board.old board.new pending.old pending.new }
     ensures byte { result ≡ byte_sent (com1_of board.old) }
 {
     let edges = board.tick(events);
@@ -41,15 +36,12 @@ fn step_board(events: &[Event], board: &mut Board, pending: &mut Pending) -> Opt
     edges.com1
 }
 
-/// The first step of a tick: the devices take a tick and the script's events of it. The lines that rise are marked for the guest, and the
-/// byte that leaves COM1 has its line.
+/// The first step of a tick: the devices take a tick and the script's events of it. The lines that rise are marked for
+/// the guest, and the byte that leaves COM1 has its line.
 pub fn devices(events: &[Event], board: &mut Board, pending: &mut Pending, lines: &mut Lines)
     requires events { AreEvents events.now }
     requires empty { lines.old.g ≡ [] }
-    ensures com1 { com1_of board.new ≡ sampled (all_received (com1_bytes events.now) (ticked (com1_of board.old))) }
-    ensures asked { pending.new ≡ union (if rose (com1_of board.old) (com1_of board.new) then with_line pending.old 4 else pending.old) (lines_asked 0 (lines_of events.now)) }
-    ensures rises { rises_of board.new ≡ rises_of board.old }
-    ensures board { board.new ≡ (device_step events.now board.old).board }
+    ensures stepped { Stepped events.now board.old board.new pending.old pending.new }
     ensures lines { lines.new ≡ record lines.old { g = com1_lines (byte_sent (com1_of board.old)) } }
 {
     if let Some(byte) = step_board(events, board, pending) {

@@ -27,7 +27,8 @@ use soft_flags::SoftFlags;
 use std::marker::Model;
 use trace_lines::{Lines, Mode, Who};
 
-/// What a machine is made of: its memory, with the guest's image placed, the address of the guest's first instruction, and the script.
+/// What a machine is made of: its memory, with the guest's image placed, the address of the guest's first instruction, and
+/// the script.
 #[derive(Drop)]
 pub struct Parts {
     pub memory: FlatMemory,
@@ -35,8 +36,9 @@ pub struct Parts {
     pub script: Script,
 }
 
-/// The machine: one memory, one set of registers, one board of devices, the guest's soft side, what is on the processor, the script's
-/// events to come, and how many ticks were run. It is seen as these parts. The registers belong to what is on the processor.
+/// The machine: one memory, one set of registers, one board of devices, the guest's soft side, what is on the processor,
+/// the script's events to come, and how many ticks were run. It is seen as these parts. The registers belong to what is on
+/// the processor.
 #[derive(Drop)]
 pub struct Machine {
     memory: FlatMemory,
@@ -59,9 +61,19 @@ impl Model for Machine {
 
     ghost Value = { MachineParts };
 
-    ghost view = { λ m. record { memory = m.memory; registers = m.registers; board = m.board; guest = m.guest; on = m.on; coming = drop m.next m.script.events; ticks = m.ticks } };
+    ghost view = { λ m. record {
+      memory = m.memory;
+      registers = m.registers;
+      board = m.board;
+      guest = m.guest;
+      on = m.on;
+      coming = drop m.next m.script.events;
+      ticks = m.ticks;
+    } };
 
-    ghost invariant = { λ m. (m.ticks ≤ 1000000000) × (length m.memory.guest ≤ 16777216) × HasTableIn m.guest.soft (length m.memory.guest) × (rises_of m.board ≡ 0) × (m.next ≤ length m.script.events) × AreComing (m.ticks + 1) (drop m.next m.script.events) };
+    ghost invariant = { λ m. (m.ticks ≤ 1000000000) × (length m.memory.guest ≤ 16777216)
+        × HasTableIn m.guest.soft (length m.memory.guest) × (rises_of m.board ≡ 0)
+        × (m.next ≤ length m.script.events) × AreComing (m.ticks + 1) (drop m.next m.script.events) };
 }
 
 impl Machine {
@@ -105,9 +117,14 @@ impl Machine {
     /// One tick. Afterwards `lines` holds just its lines.
     pub fn tick(&mut self, lines: &mut Lines)
         requires { self.old.ticks < 1000000000 }
-        ensures guest { bare_of self.new ≡ bare_tick (self.old.ticks + 1) (at_tick (self.old.ticks + 1) self.old.coming) (sight_from self.old.on 0 lines.new.r) (bare_of self.old) }
-        ensures guest_lines { lines.new.g ≡ bare_tick_lines (self.old.ticks + 1) (at_tick (self.old.ticks + 1) self.old.coming) (sight_from self.old.on 0 lines.new.r) (bare_of self.old) }
-        ensures board { self.new.board ≡ board_after (at_tick (self.old.ticks + 1) self.old.coming) (com1_of self.new.board) self.old.board }
+        ensures guest { let t = self.old.ticks + 1 in
+            bare_of self.new
+            ≡ bare_tick t (at_tick t self.old.coming) (sight_from self.old.on 0 lines.new.r) (bare_of self.old) }
+        ensures guest_lines { let t = self.old.ticks + 1 in
+            lines.new.g
+            ≡ bare_tick_lines t (at_tick t self.old.coming) (sight_from self.old.on 0 lines.new.r) (bare_of self.old) }
+        ensures board { self.new.board
+            ≡ board_after (at_tick (self.old.ticks + 1) self.old.coming) (com1_of self.new.board) self.old.board }
         ensures holder { self.new.on ≡ fold held_by self.old.on lines.new.r }
         ensures picked { lines.new.r ≡ guest_picked self.old.on }
         ensures hardware { lines.new.h ≡ [] }

@@ -76,16 +76,10 @@ fn breach_kind(breach: Breach) -> BreachKind
 // A unit of the processor over the guest's part of the memory and COM1.
 #[tactic(auto, unfolding(breach_monitor::specs::SerialUnit::unit_at))]
 fn run_unit(memory: &mut FlatMemory, registers: &mut Registers, board: &mut Board) -> GuestUnit
-    ensures performs {
-        Performs (effect_on memory.old registers.old board.old) result memory.old memory.new registers.old registers.new
-    }
-    ensures board {
-        board.new ≡ accessed owner.Guest (effect_on memory.old registers.old board.old).bus.devices board.old
-    }
-    ensures unchanged {
-        result ≢ GuestUnit.Next
-            → (registers.new ≡ registers.old) × (memory.new ≡ memory.old) × (board.new ≡ board.old)
-    }
+    ensures performs { Performs (effect_on memory.old registers.old board.old) result memory.old memory.new registers.old registers.new }
+    ensures board { board.new ≡ accessed owner.Guest (effect_on memory.old registers.old board.old).bus.devices board.old }
+    ensures unchanged { result ≢ GuestUnit.Next
+        → (registers.new ≡ registers.old) × (memory.new ≡ memory.old) × (board.new ≡ board.old) }
 {
     unit_of_serial(Owner::Guest);
     unit_keeps_others(Owner::Guest);
@@ -100,20 +94,14 @@ fn perform(
     pending: &mut Pending,
 ) -> GuestUnit
     requires none_rose { rises_of board.old ≡ 0 }
-    ensures performs {
-        Performs (effect_on memory.old registers.old board.old) result memory.old memory.new registers.old registers.new
-    }
+    ensures performs { Performs (effect_on memory.old registers.old board.old) result memory.old memory.new registers.old registers.new }
     ensures com1 { com1_of board.new ≡ (effect_on memory.old registers.old board.old).bus.devices }
-    ensures asked {
-        pending.new
-            ≡ (if rose (com1_of board.old) (com1_of board.new) then with_line pending.old 4 else pending.old)
-    }
+    ensures asked { pending.new
+        ≡ (if rose (com1_of board.old) (com1_of board.new) then with_line pending.old 4 else pending.old) }
     ensures board { LeavesBoard board.old board.new }
-    ensures unchanged {
-        result ≢ GuestUnit.Next
-            → (registers.new ≡ registers.old) × (memory.new ≡ memory.old)
-            × (com1_of board.new ≡ com1_of board.old) × (pending.new ≡ pending.old)
-    }
+    ensures unchanged { result ≢ GuestUnit.Next
+        → (registers.new ≡ registers.old) × (memory.new ≡ memory.old)
+        × (com1_of board.new ≡ com1_of board.old) × (pending.new ≡ pending.old) }
 {
     let unit = run_unit(memory, registers, board);
     mark(board.take_rises(), pending);
@@ -130,13 +118,9 @@ fn enter_on(
 ) -> Entry
     requires size { length bytes.old < 2 ^ 32 }
     requires table { HasTableIn soft.old (length bytes.old) }
-    ensures entering {
-        record { entry = result; registers = registers.new; flags = soft.new; side = side_at 0 bytes.new }
-            ≡ entering vector push registers.old soft.old (side_at 0 bytes.old)
-    }
-    ensures unchanged {
-        result ≢ Entry.Entered → (registers.new ≡ registers.old) × (soft.new ≡ soft.old) × (bytes.new ≡ bytes.old)
-    }
+    ensures entering { record { entry = result; registers = registers.new; flags = soft.new; side = side_at 0 bytes.new }
+        ≡ entering vector push registers.old soft.old (side_at 0 bytes.old) }
+    ensures unchanged { result ≢ Entry.Entered → (registers.new ≡ registers.old) × (soft.new ≡ soft.old) × (bytes.new ≡ bytes.old) }
     ensures table { HasTableIn soft.new (length bytes.old) }
 {
     let mut side = Side::new(0, bytes);
@@ -156,13 +140,9 @@ fn gate_on(
     requires last { number ≤ last_gate }
     requires size { length bytes.old < 2 ^ 32 }
     requires table { HasTableIn soft.old (length bytes.old) }
-    ensures gated {
-        record { came = outcome_of result; registers = registers.new; flags = soft.new; side = side_at 0 bytes.new }
-            ≡ gated number next now no_services registers.old soft.old (side_at 0 bytes.old)
-    }
-    ensures unchanged {
-        WhenOutside result ((registers.new ≡ registers.old) × (soft.new ≡ soft.old) × (bytes.new ≡ bytes.old))
-    }
+    ensures gated { record { came = outcome_of result; registers = registers.new; flags = soft.new; side = side_at 0 bytes.new }
+        ≡ gated number next now no_services registers.old soft.old (side_at 0 bytes.old) }
+    ensures unchanged { WhenOutside result ((registers.new ≡ registers.old) × (soft.new ≡ soft.old) × (bytes.new ≡ bytes.old)) }
     ensures offered { IsOffered no_services (side_at 0 bytes.new) result }
     ensures table { HasTableIn soft.new (length bytes.old) }
 {
@@ -170,8 +150,8 @@ fn gate_on(
     gate(number, next, now, SERVICES, registers, soft, &mut side)
 }
 
-// What isn't the next instruction has a line, mostly. Lines are rare: each is pushed where it is made, so that no tick without one makes
-// room for it.
+// What isn't the next instruction has a line, mostly. Lines are rare: each is pushed where it is made, so that no tick
+// without one makes room for it.
 
 // A trap or an interrupt.
 fn enter_vector(
@@ -184,11 +164,9 @@ fn enter_vector(
 )
     requires can_begin { CanBegin (parts memory.old registers.old guest.old lines.old) }
     requires runs { guest.old.mode ≡ Mode.Runs }
-    ensures {
-        let old = parts memory.old registers.old guest.old lines.old in
+    ensures { let old = parts memory.old registers.old guest.old lines.old in
         let new = parts memory.new registers.new guest.new lines.new in
-        (com1 : _) → Leaves (int_entry vector push (bare_over old com1)) com1 old new
-    }
+        (com1 : _) → Leaves (int_entry vector push (bare_over old com1)) com1 old new }
 {
     match enter_on(vector, push, registers, &mut guest.soft, memory.guest()) {
         Entry::Entered => lines.push_g(GLine::Int(u32::from(vector))),
@@ -213,11 +191,9 @@ fn enter_line(
 )
     requires line { line < 32 }
     requires can_begin { CanBegin (parts memory.old registers.old guest.old lines.old) }
-    ensures {
-        let old = parts memory.old registers.old guest.old lines.old in
+    ensures { let old = parts memory.old registers.old guest.old lines.old in
         let new = parts memory.new registers.new guest.new lines.new in
-        (com1 : _) → Leaves (asked_entry line (bare_over old com1)) com1 old new
-    }
+        (com1 : _) → Leaves (asked_entry line (bare_over old com1)) com1 old new }
 {
     let vector = FIRST_LINE + line;
     match enter_on(
@@ -256,11 +232,9 @@ fn perform_gate(
     requires first { first_gate ≤ number }
     requires last { number ≤ last_gate }
     requires can_begin { CanBegin (parts memory.old registers.old guest.old lines.old) }
-    ensures {
-        let old = parts memory.old registers.old guest.old lines.old in
+    ensures { let old = parts memory.old registers.old guest.old lines.old in
         let new = parts memory.new registers.new guest.new lines.new in
-        (com1 : _) → Leaves (gate_of now number next (bare_over old com1)) com1 old new
-    }
+        (com1 : _) → Leaves (gate_of now number next (bare_over old com1)) com1 old new }
 {
     match gate_on(
         number,
@@ -304,11 +278,9 @@ fn instruction(
     requires can_begin { CanBegin (parts memory.old registers.old guest.old lines.old) }
     requires runs { guest.old.mode ≡ Mode.Runs }
     requires none_rose { rises_of board.old ≡ 0 }
-    ensures leaves {
-        let old = parts memory.old registers.old guest.old lines.old in
+    ensures leaves { let old = parts memory.old registers.old guest.old lines.old in
         let new = parts memory.new registers.new guest.new lines.new in
-        Leaves (instruction_of now (bare_over old (com1_of board.old))) (com1_of board.new) old new
-    }
+        Leaves (instruction_of now (bare_over old (com1_of board.old))) (com1_of board.new) old new }
     ensures board { LeavesBoard board.old board.new }
 {
     match perform(memory, registers, board, &mut guest.pending) {
@@ -328,10 +300,8 @@ fn instruction(
 
 // The line that is to be entered: the lowest that is asked and enabled, where the flag is set and no shadow stands.
 fn line_to_enter(guest: &Guest) -> Option<u8>
-    ensures line {
-        result
-            ≡ (if is_open guest.now.soft then lowest_enabled guest.now.pending guest.now.soft.mask else None)
-    }
+    ensures line { result
+        ≡ (if is_open guest.now.soft then lowest_enabled guest.now.pending guest.now.soft.mask else None) }
     ensures below { IfSome result (λ n. n < 32) }
 {
     if guest.soft.may_enter() {
@@ -341,8 +311,8 @@ fn line_to_enter(guest: &Guest) -> Option<u8>
     }
 }
 
-/// The guest's unit in tick `now`, with its line, if it has one. Where the guest is stopped, nothing happens. Else an asked line that may
-/// be entered goes first. Else, where the guest is halted, nothing happens.
+/// The guest's unit in tick `now`, with its line, if it has one. Where the guest is stopped, nothing happens. Else an asked
+/// line that may be entered goes first. Else, where the guest is halted, nothing happens.
 #[tactic(auto, unfolding(bare_machine::specs::Unit::guest_unit))]
 pub fn guest_unit(
     now: u32,
@@ -354,11 +324,9 @@ pub fn guest_unit(
 )
     requires can_begin { CanBegin (parts memory.old registers.old guest.old lines.old) }
     requires none_rose { rises_of board.old ≡ 0 }
-    ensures leaves {
-        let old = parts memory.old registers.old guest.old lines.old in
+    ensures leaves { let old = parts memory.old registers.old guest.old lines.old in
         let new = parts memory.new registers.new guest.new lines.new in
-        Leaves (guest_unit_of now (bare_over old (com1_of board.old))) (com1_of board.new) old new
-    }
+        Leaves (guest_unit_of now (bare_over old (com1_of board.old))) (com1_of board.new) old new }
     ensures board { LeavesBoard board.old board.new }
 {
     if guest.mode == Mode::Stopped {

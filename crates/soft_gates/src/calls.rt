@@ -116,7 +116,8 @@ fn store_bytes(side: &mut Side<'_>, at: u32, bytes: &[u8])
 /// The reply to a call: its result is left in EAX, and the bytes of a get are stored at its place.
 pub fn reply(call: &Call, answer: i32, bytes: &[u8], regs: &mut Registers, side: &mut Side<'_>)
     requires { TakesReply (side_of side.old) (length bytes.now) call.now }
-    ensures replied { record { registers = regs.new; side = side_of side.new } ≡ replied (call_of call.now) (place_of call.now) answer bytes.now regs.old (side_of side.old) }
+    ensures replied { record { registers = regs.new; side = side_of side.new }
+        ≡ replied (call_of call.now) (place_of call.now) answer bytes.now regs.old (side_of side.old) }
     ensures first { side.new.first ≡ side.old.first }
     ensures same_loan { side.new.bytes.ghost_name ≡ side.old.bytes.ghost_name }
 {

@@ -54,7 +54,8 @@ fn interrupt_flag(word: u32) -> bool
 }
 
 fn perform_iret(regs: &mut Registers, flags: &mut SoftFlags, side: &Side<'_>) -> GateUnit
-    ensures gated { record { came = outcome_of result; registers = regs.new; flags = flags.new; side = side_of side.now } ≡ iret regs.old flags.old (side_of side.now) }
+    ensures gated { record { came = outcome_of result; registers = regs.new; flags = flags.new; side = side_of side.now }
+        ≡ iret regs.old flags.old (side_of side.now) }
     ensures unchanged { WhenOutside result ((regs.new ≡ regs.old) × (flags.new ≡ flags.old)) }
     ensures same_table { (flags.new.idt ≡ flags.old.idt) × (flags.new.entries ≡ flags.old.entries) }
 {
@@ -85,7 +86,8 @@ fn perform_pushf(
     flags: &mut SoftFlags,
     side: &mut Side<'_>,
 ) -> GateUnit
-    ensures gated { record { came = outcome_of result; registers = regs.new; flags = flags.new; side = side_of side.new } ≡ pushf next regs.old flags.old (side_of side.old) }
+    ensures gated { record { came = outcome_of result; registers = regs.new; flags = flags.new; side = side_of side.new }
+        ≡ pushf next regs.old flags.old (side_of side.old) }
     ensures first { side.new.first ≡ side.old.first }
     ensures same_loan { side.new.bytes.ghost_name ≡ side.old.bytes.ghost_name }
     ensures unchanged { WhenOutside result ((regs.new ≡ regs.old) × (flags.new ≡ flags.old) × (side_of side.new ≡ side_of side.old)) }
@@ -103,7 +105,8 @@ fn perform_pushf(
 }
 
 fn perform_popf(next: u32, regs: &mut Registers, flags: &mut SoftFlags, side: &Side<'_>) -> GateUnit
-    ensures gated { record { came = outcome_of result; registers = regs.new; flags = flags.new; side = side_of side.now } ≡ popf next regs.old flags.old (side_of side.now) }
+    ensures gated { record { came = outcome_of result; registers = regs.new; flags = flags.new; side = side_of side.now }
+        ≡ popf next regs.old flags.old (side_of side.now) }
     ensures unchanged { WhenOutside result ((regs.new ≡ regs.old) × (flags.new ≡ flags.old)) }
     ensures same_table { (flags.new.idt ≡ flags.old.idt) × (flags.new.entries ≡ flags.old.entries) }
 {
@@ -121,7 +124,8 @@ fn perform_popf(next: u32, regs: &mut Registers, flags: &mut SoftFlags, side: &S
 }
 
 /// Performs the gate of a number, F0h to F6h, in tick `now`. EIP becomes `next`, the address behind the gate, or what iret
-/// pops. Where an access is outside, nothing changes. `services` says which functions of F6h are there; the others are refused.
+/// pops. Where an access is outside, nothing changes. `services` says which functions of F6h are there; the others are
+/// refused.
 #[tactic(auto, unfolding(crate::specs::Gate::gated))]
 pub fn gate(
     number: u8,
@@ -135,12 +139,13 @@ pub fn gate(
     requires first { 0xf0 ≤ number }
     requires last { number ≤ 0xf6 }
     requires size { (side_of side.old).first + length (side_of side.old).bytes < 2 ^ 32 }
-    ensures gated { record { came = outcome_of result; registers = regs.new; flags = flags.new; side = side_of side.new } ≡ gated number next now services regs.old flags.old (side_of side.old) }
+    ensures gated { record { came = outcome_of result; registers = regs.new; flags = flags.new; side = side_of side.new }
+        ≡ gated number next now services regs.old flags.old (side_of side.old) }
     ensures offered { IsOffered services (side_of side.new) result }
     ensures first { side.new.first ≡ side.old.first }
     ensures same_loan { side.new.bytes.ghost_name ≡ side.old.bytes.ghost_name }
     ensures unchanged { WhenOutside result ((regs.new ≡ regs.old) × (flags.new ≡ flags.old) × (side_of side.new ≡ side_of side.old)) }
-    ensures table { HasTableIn flags.old (length (side_of side.old).bytes) → HasTableIn flags.new (length (side_of side.old).bytes) }
+    ensures table { let size = length (side_of side.old).bytes in HasTableIn flags.old size → HasTableIn flags.new size }
 {
     match number {
         CLI => {

@@ -53,7 +53,8 @@ fn refuse(next: u32, regs: &mut Registers, flags: &mut SoftFlags)
 }
 
 fn set_timer(next: u32, regs: &mut Registers, flags: &mut SoftFlags) -> GateUnit
-    ensures served { record { came = outcome_of result; registers = regs.new; flags = flags.new } ≡ set_timer_of next regs.old flags.old }
+    ensures served { record { came = outcome_of result; registers = regs.new; flags = flags.new }
+        ≡ set_timer_of next regs.old flags.old }
     ensures unchanged { WhenOutside result ((regs.new ≡ regs.old) × (flags.new ≡ flags.old)) }
     ensures offered { (services : Services) → (s : _) → IsTrue services.timer → IsOffered services s result }
     ensures same_table { (flags.new.idt ≡ flags.old.idt) × (flags.new.entries ≡ flags.old.entries) }
@@ -70,7 +71,8 @@ fn set_timer(next: u32, regs: &mut Registers, flags: &mut SoftFlags) -> GateUnit
 
 fn fifo_put(next: u32, regs: &mut Registers, flags: &mut SoftFlags, side: &Side<'_>) -> GateUnit
     requires { (side_of side.now).first + length (side_of side.now).bytes < 2 ^ 32 }
-    ensures served { record { came = outcome_of result; registers = regs.new; flags = flags.new } ≡ fifo_put_of (side_of side.now) next regs.old flags.old }
+    ensures served { record { came = outcome_of result; registers = regs.new; flags = flags.new }
+        ≡ fifo_put_of (side_of side.now) next regs.old flags.old }
     ensures unchanged { WhenOutside result ((regs.new ≡ regs.old) × (flags.new ≡ flags.old)) }
     ensures offered { (services : Services) → IsTrue services.fifos → IsOffered services (side_of side.now) result }
     ensures same_table { (flags.new.idt ≡ flags.old.idt) × (flags.new.entries ≡ flags.old.entries) }
@@ -93,7 +95,8 @@ fn fifo_put(next: u32, regs: &mut Registers, flags: &mut SoftFlags, side: &Side<
 
 fn fifo_get(next: u32, regs: &mut Registers, flags: &mut SoftFlags, side: &Side<'_>) -> GateUnit
     requires { (side_of side.now).first + length (side_of side.now).bytes < 2 ^ 32 }
-    ensures served { record { came = outcome_of result; registers = regs.new; flags = flags.new } ≡ fifo_get_of (side_of side.now) next regs.old flags.old }
+    ensures served { record { came = outcome_of result; registers = regs.new; flags = flags.new }
+        ≡ fifo_get_of (side_of side.now) next regs.old flags.old }
     ensures unchanged { WhenOutside result ((regs.new ≡ regs.old) × (flags.new ≡ flags.old)) }
     ensures offered { (services : Services) → IsTrue services.fifos → IsOffered services (side_of side.now) result }
     ensures same_table { (flags.new.idt ≡ flags.old.idt) × (flags.new.entries ≡ flags.old.entries) }
@@ -126,10 +129,11 @@ pub fn service(
     side: &Side<'_>,
 ) -> GateUnit
     requires { (side_of side.now).first + length (side_of side.now).bytes < 2 ^ 32 }
-    ensures served { record { came = outcome_of result; registers = regs.new; flags = flags.new } ≡ service_of (side_of side.now) next now services regs.old flags.old }
+    ensures served { record { came = outcome_of result; registers = regs.new; flags = flags.new }
+        ≡ service_of (side_of side.now) next now services regs.old flags.old }
     ensures unchanged { WhenOutside result ((regs.new ≡ regs.old) × (flags.new ≡ flags.old)) }
     ensures offered { IsOffered services (side_of side.now) result }
-    ensures table { HasTableIn flags.old (length (side_of side.now).bytes) → HasTableIn flags.new (length (side_of side.now).bytes) }
+    ensures table { let size = length (side_of side.now).bytes in HasTableIn flags.old size → HasTableIn flags.new size }
 {
     let first = regs.general[EBX];
     let second = regs.general[ECX];

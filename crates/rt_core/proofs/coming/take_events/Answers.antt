@@ -1,6 +1,6 @@
 use Rattle.std.proofs.Common.{◌+◌, ◌∙◌, sym, arith, drop, slice_index_or}
 use Rattle.std.proofs.lemmas.List.{drop_more}
-use Rattle.rt_core.proofs.Events.{taking_first, taking_more, taken, has_room, device_events, came_inside, came_same}
+use Rattle.rt_core.proofs.Events.{taking_first, taking_more, taking_ends, has_room, device_events, came_inside, came_same}
 use Rattle.device_script.specs.declared.event.Event.TheVariants.{Line}
 use Rattle.rt_core.proofs.coming.take_events.Goals as goal
 
@@ -8,20 +8,20 @@ pub loop-into-init : goal.loop-into-init
 loop-into-init c = record { place = c.requires.place; taking = taking_first _ _ _ c.requires.coming c.told-into }
 
 pub returns-clause-events : goal.returns-clause-events
-returns-clause-events c = (taken _ _ _ _ _ c.loop-into.invariant.taking (sym c.comes.ensures ∙ c.loop-into-test.false)).copied
+returns-clause-events c = (taking_ends _ _ _ _ _ c.loop-into.invariant.taking (sym c.comes.ensures ∙ c.loop-into-test.false)).copied
 
 pub returns-clause-few : goal.returns-clause-few
-returns-clause-few c = (taken _ _ _ _ _ c.loop-into.invariant.taking (sym c.comes.ensures ∙ c.loop-into-test.false)).few
+returns-clause-few c = (taking_ends _ _ _ _ _ c.loop-into.invariant.taking (sym c.comes.ensures ∙ c.loop-into-test.false)).few
 
 pub returns-clause-later : goal.returns-clause-later
-returns-clause-later c = (taken _ _ _ _ _ c.loop-into.invariant.taking (sym c.comes.ensures ∙ c.loop-into-test.false)).later
+returns-clause-later c = (taking_ends _ _ _ _ _ c.loop-into.invariant.taking (sym c.comes.ensures ∙ c.loop-into-test.false)).later
 
 pub returns-clause-coming : goal.returns-clause-coming
-returns-clause-coming c = (taken _ _ _ _ _ c.loop-into.invariant.taking (sym c.comes.ensures ∙ c.loop-into-test.false)).coming
+returns-clause-coming c = (taking_ends _ _ _ _ _ c.loop-into.invariant.taking (sym c.comes.ensures ∙ c.loop-into-test.false)).coming
 
 pub returns-clause-are : goal.returns-clause-are
 returns-clause-are c =
-    rw ((taken _ _ _ _ _ c.loop-into.invariant.taking (sym c.comes.ensures ∙ c.loop-into-test.false)).copied) (device_events c.args.now (drop c.args.next.now c.args.events.now) c.requires.coming.good)
+    rw ((taking_ends _ _ _ _ _ c.loop-into.invariant.taking (sym c.comes.ensures ∙ c.loop-into-test.false)).copied) (device_events c.args.now (drop c.args.next.now c.args.events.now) c.requires.coming.good)
 
 pub loop-into-preserved : goal.loop-into-preserved
 loop-into-preserved c =

@@ -43,8 +43,8 @@ the_tick c =
     let events = drop m.next m.script.events in
     let same = same_events c in
     let begun = prepares t (at_tick t events) m.memory m.registers (com1_of m.board) (com1_of c.devices.new.board) m.guest c.devices.new.pending
-    (c.devices.ensures.com1 ∙ ap (λ es. sampled (all_received (com1_bytes es) (ticked (com1_of m.board)))) same)
-    (rw (sym same) c.devices.ensures.asked) in
+    (c.devices.ensures.stepped.com1 ∙ ap (λ es. sampled (all_received (com1_bytes es) (ticked (com1_of m.board)))) same)
+    (rw (sym same) c.devices.ensures.stepped.asked) in
     is_tick t (at_tick t events) (sight_from m.on 0 (guest_picked m.on)) (bare_with m.memory m.registers (com1_of m.board) m.guest) _ _ (unit_lines (came c)) (picked m.on) begun c.guest_unit.ensures.leaves.outcome
 
 pub returns-clause-guest : goal.returns-clause-guest
@@ -53,7 +53,7 @@ returns-clause-guest c = rw (← c.self.view_is, c.guest_unit.ensures.leaves.lin
 pub returns-clause-board : goal.returns-clause-board
 returns-clause-board c =
     let port = com1_of c.guest_unit.new.board in
-    rw (← c.self.view_is) (c.guest_unit.ensures.board.board ∙ ap (after_unit port) c.devices.ensures.board ∙ ap (λ es. board_after es port c.self.inside.board) (same_events c))
+    rw (← c.self.view_is) (c.guest_unit.ensures.board.board ∙ ap (after_unit port) c.devices.ensures.stepped.board ∙ ap (λ es. board_after es port c.self.inside.board) (same_events c))
 
 pub returns-clause-guest_lines : goal.returns-clause-guest_lines
 returns-clause-guest_lines c = rw (← c.self.view_is, c.guest_unit.ensures.leaves.lines, c.pick.ensures.lines, c.devices.ensures.lines) (the_tick c).lines
