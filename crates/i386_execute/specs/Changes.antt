@@ -9,12 +9,12 @@ use Rattle.i386_decode.specs.declared.form.Form.{Form}
 use Rattle.i386_effects.specs.Change.{Change, Trap, Interrupt, Privileged}
 use Rattle.i386_execute.specs.Arithmetic.{combined, compared, altered, shifted, double_shifted}
 use Rattle.i386_execute.specs.Bits.{tested, bit_changed, scanned}
-use Rattle.i386_execute.specs.Flags.{flag_changed, taken, given}
+use Rattle.i386_execute.specs.Flags.{flag_changed, sahf, lahf}
 use Rattle.i386_execute.specs.Interrupts.{port_read, port_written, interrupted, interrupted_on_overflow}
 use Rattle.i386_execute.specs.Jumps.{branched, looped, jumped_at_zero}
 use Rattle.i386_execute.specs.Moves.{copied, exchanged, zero_extended, sign_extended, widened, sign_spread, addressed, translated, set_where}
 use Rattle.i386_execute.specs.Products.{multiplied, signed_multiplied, divided}
-use Rattle.i386_execute.specs.Stack.{pushed, all_pushed, popped, all_popped, left, called, returned, jumped}
+use Rattle.i386_execute.specs.Stack.{pushed, all_pushed, popped, all_popped, leave, called, returned, jumped}
 
 unfoldable pub change : Op → Form → ℕ → Registers → List ℕ → Change
 -- data movement
@@ -71,7 +71,7 @@ change op.Jcc f n r ws = branched f r
 change op.Jmp f n r ws = jumped f r ws
 change op.Call f n r ws = called f r ws
 change op.Ret f n r ws = returned f r ws
-change op.Leave f n r ws = left r ws
+change op.Leave f n r ws = leave r ws
 change op.Loop f n r ws = looped f r
 change op.Loope f n r ws = looped f r
 change op.Loopne f n r ws = looped f r
@@ -88,8 +88,8 @@ change op.Cld f n r ws = flag_changed f r
 change op.Std f n r ws = flag_changed f r
 change op.Cli f n r ws = Privileged Cli n
 change op.Sti f n r ws = Privileged Sti n
-change op.Sahf f n r ws = taken r
-change op.Lahf f n r ws = given r
+change op.Sahf f n r ws = sahf r
+change op.Lahf f n r ws = lahf r
 change op.Pushf f n r ws = Privileged Pushf n
 change op.Popf f n r ws = Privileged Popf n
 -- ports and the processor

@@ -24,8 +24,8 @@ unfoldable pub flag_changed : Form → Registers → Change
 flag_changed f r = flagged r (flags_by f.op r.eflags)
 
 -- SF, ZF, AF, PF and CF of a byte; the other flags stay
-abbrev pub taken_from : ℕ → Eflags → Eflags
-taken_from byte f = record f {
+abbrev pub sahf_of : ℕ → Eflags → Eflags
+sahf_of byte f = record f {
   carry = bit byte 0;
   parity = bit byte 2;
   adjust = bit byte 4;
@@ -34,9 +34,9 @@ taken_from byte f = record f {
 }
 
 -- SAHF: from AH, which is register 4 of the byte registers
-unfoldable pub taken : Registers → Change
-taken r = flagged r (taken_from (part W8 4 r.general) r.eflags)
+unfoldable pub sahf : Registers → Change
+sahf r = flagged r (sahf_of (part W8 4 r.general) r.eflags)
 
 -- LAHF: the low byte of EFLAGS to AH
-unfoldable pub given : Registers → Change
-given r = with_general r (with_part W8 4 (word_of r.eflags % 256) r.general)
+unfoldable pub lahf : Registers → Change
+lahf r = with_general r (with_part W8 4 (word_of r.eflags % 256) r.general)

@@ -60,8 +60,8 @@ all_popped r ws =
 unfoldable pub frame_touches : Registers → List Touch
 frame_touches r = record { at = ebp r; width = W32 } ∷ []
 
-unfoldable pub left : Registers → List ℕ → Change
-left r ws = with_general r (slice_set (with_esp ((ebp r + 4) % 2 ^ 32) r).general 5 (slice_index ws 0))
+unfoldable pub leave : Registers → List ℕ → Change
+leave r ws = with_general r (slice_set (with_esp ((ebp r + 4) % 2 ^ 32) r).general 5 (slice_index ws 0))
 
 -- where CALL and JMP go: a displacement counts from behind the instruction
 abbrev pub target_of : Operand → Form → Registers → List ℕ → ℕ

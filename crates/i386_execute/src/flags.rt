@@ -1,7 +1,7 @@
 // Instructions on flags.
 ghost use Rattle.std.specs.Prelude.{◌≡◌};
 ghost use Rattle.i386_effects.specs.Effect.{came_to};
-ghost use Rattle.i386_execute.specs.Flags.{flags_by, flag_changed, taken_from, taken, given};
+ghost use Rattle.i386_execute.specs.Flags.{flags_by, flag_changed, sahf_of, sahf, lahf};
 ghost use Rattle.i386_execute.specs.Unit.{plain_row};
 
 use crate::results::onward;
@@ -56,8 +56,8 @@ pub(crate) fn change_flag<B: Bus>(
 }
 
 // SF, ZF, AF, PF and CF of a byte.
-fn taken_from(byte: u32, eflags: Eflags) -> Eflags
-    ensures { result ≡ taken_from byte eflags }
+fn sahf_of(byte: u32, eflags: Eflags) -> Eflags
+    ensures { result ≡ sahf_of byte eflags }
 {
     let from = Eflags::from_word(byte);
     Eflags {
@@ -71,21 +71,21 @@ fn taken_from(byte: u32, eflags: Eflags) -> Eflags
 }
 
 // SAHF.
-#[tactic(auto, unfolding(crate::specs::Flags::taken))]
+#[tactic(auto, unfolding(crate::specs::Flags::sahf))]
 pub(crate) fn take_flags<B: Bus>(length: u8, regs: &mut Registers, bus: &mut B) -> Stepped
-    ensures effect { came_to result regs.new (B.state bus.new) ≡ plain_row B.ports taken length regs.old (B.state bus.old) }
+    ensures effect { came_to result regs.new (B.state bus.new) ≡ plain_row B.ports sahf length regs.old (B.state bus.old) }
     ensures lenders { B.lenders bus.new ≡ B.lenders bus.old }
 {
     let byte = part(Width::W8, AH, &regs.general);
-    regs.eflags = taken_from(byte, regs.eflags);
+    regs.eflags = sahf_of(byte, regs.eflags);
     regs.eip = onward(regs.eip, u32::from(length));
     Stepped::Next
 }
 
 // LAHF.
-#[tactic(auto, unfolding(crate::specs::Flags::given))]
+#[tactic(auto, unfolding(crate::specs::Flags::lahf))]
 pub(crate) fn give_flags<B: Bus>(length: u8, regs: &mut Registers, bus: &mut B) -> Stepped
-    ensures effect { came_to result regs.new (B.state bus.new) ≡ plain_row B.ports given length regs.old (B.state bus.old) }
+    ensures effect { came_to result regs.new (B.state bus.new) ≡ plain_row B.ports lahf length regs.old (B.state bus.old) }
     ensures lenders { B.lenders bus.new ≡ B.lenders bus.old }
 {
     let byte = regs.eflags.word() % 0x100;

@@ -2,7 +2,7 @@
 ghost use Rattle.std.specs.Prelude.{◌≡◌};
 ghost use Rattle.i386_effects.specs.Effect.{came_to};
 ghost use Rattle.i386_execute.specs.Loads.{first_touches};
-ghost use Rattle.i386_execute.specs.Stack.{below, above, slot, pushed, all_pushed, top_touches, popped, all_touches, all_popped, frame_touches, left, target_read, called, returned, jumped};
+ghost use Rattle.i386_execute.specs.Stack.{below, above, slot, pushed, all_pushed, top_touches, popped, all_touches, all_popped, frame_touches, leave, target_read, called, returned, jumped};
 ghost use Rattle.i386_execute.specs.Unit.{row, plain_row};
 
 use crate::results::{made, onward, port};
@@ -138,9 +138,9 @@ pub(crate) fn pop_all<B: Bus>(length: u8, regs: &mut Registers, bus: &mut B) -> 
 }
 
 // LEAVE.
-#[tactic(auto, unfolding(crate::specs::Stack::left, crate::specs::Stack::frame_touches))]
+#[tactic(auto, unfolding(crate::specs::Stack::leave, crate::specs::Stack::frame_touches))]
 pub(crate) fn leave<B: Bus>(length: u8, regs: &mut Registers, bus: &mut B) -> Stepped
-    ensures effect { came_to result regs.new (B.state bus.new) ≡ row B.ports frame_touches left length regs.old (B.state bus.old) }
+    ensures effect { came_to result regs.new (B.state bus.new) ≡ row B.ports frame_touches leave length regs.old (B.state bus.old) }
     ensures lenders { B.lenders bus.new ≡ B.lenders bus.old }
 {
     let frame = regs.general[EBP];
