@@ -1,4 +1,4 @@
-use Rattle.std.proofs.Common.{◌≡◌, false, arith, subst, sym}
+use Rattle.std.proofs.Common.{rules, ◌≡◌, false, arith, subst, sym}
 use Rattle.rt_ready.proofs.Members.{has_room, members_push}
 use Rattle.rt_ready.specs.Members.{AreMembers}
 use Rattle.rt_ready.specs.Order.{ReadyList, is_in}
@@ -17,3 +17,6 @@ invariant_of-self c =
       room = omega (arith, c.push_reserved.ensures.capacity, c.self.invariant.room);
       members = subst AreMembers (sym c.push_reserved.ensures.items) (members_push c.self.inside.places.items _ c.self.invariant.members c.requires.number apart);
     }
+
+pub returns : goal.returns
+returns c = search rules
