@@ -3,7 +3,9 @@ use Rattle.std.specs.Prelude.{◌≡◌, ℕ, true, false, [], ◌∷◌, Some, 
 use Rattle.line_kinds.specs.declared.kinds.HLine.TheVariants.{Edge, Ack, Set}
 use Rattle.bare_machine.specs.State.{all_services, first_state as first_bare}
 use Rattle.priority_schedule.specs.State.{first_state as first_real}
-use Rattle.hardware_lines.specs.Hardware.{Machines, Marking, with_edges, with_set, nearest_due, drain_step, taken, timer_step}
+use Rattle.port_map.specs.Serial.{Serial}
+use Rattle.port_map.specs.SerialLine.{new_serial}
+use Rattle.hardware_lines.specs.Hardware.{Machines, Marking, ports_rose, with_edges, with_set, nearest_due, drain_step, taken, timer_step}
 
 -- the hardware with these latched lines, the one-shot's rise in tick 90, and no line of a tick so far
 abbrev pub holding : ℕ → Marking
@@ -31,6 +33,20 @@ pub record GuestDues : Type 0 where
   pub between : nearest_due 7 (timed 5 3) ≡ Some 8
   pub next : nearest_due 8 (timed 5 3) ≡ Some 11
   pub off : nearest_due 8 (timed 5 0) ≡ None
+
+-- a serial port whose line is low, and high
+unfoldable pub low : Serial
+low = new_serial
+
+unfoldable pub high : Serial
+high = record low { high = true }
+
+-- Line 4 rises with COM1, and line 3 with COM2
+pub record Rises : Type 0 where
+  pub com1 : ports_rose low high low low 0 ≡ 0x10
+  pub com2 : ports_rose low low low high 0 ≡ 0x8
+  pub both : ports_rose low high low high 0x200 ≡ 0x218
+  pub neither : ports_rose low low high high 0 ≡ 0
 
 -- Lines 1, 3 and 9: edges by number, acknowledgements in the controllers' order, after which none is latched
 pub record Edges : Type 0 where

@@ -5,12 +5,13 @@
 //! waiting threads and of the guest's timer, and of the lines that modules hold.
 #![tactic(auto)]
 
-ghost use Rattle.hardware_lines.specs.Worked.{Edges, GuestDues, Served, Shots, Taken, Timers};
+ghost use Rattle.hardware_lines.specs.Worked.{Edges, GuestDues, Rises, Served, Shots, Taken, Timers};
 
-/// What the definitions give on small states: the one-shot, dues, edges and acknowledgements.
+/// What the definitions give on small states: the one-shot, dues, rises, edges and acknowledgements.
 pub fn worked()
     ensures shots { Shots }
     ensures guest_dues { GuestDues }
+    ensures rises { Rises }
     ensures edges { Edges }
     ensures served { Served }
     ensures taken { Taken }

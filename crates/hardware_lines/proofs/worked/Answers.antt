@@ -4,7 +4,8 @@ use Rattle.hard_dispatch.specs.Service.{in_order}
 use Rattle.bare_machine.specs.State.{first_state as first_bare}
 use Rattle.priority_schedule.specs.Release.{nearest}
 use Rattle.priority_schedule.specs.State.{first_state as first_real}
-use Rattle.hardware_lines.specs.Worked.{timed}
+use Rattle.port_map.specs.SerialLine.{new_serial}
+use Rattle.hardware_lines.specs.Worked.{timed, low, high}
 use Rattle.hardware_lines.proofs.worked.Goals as goal
 
 pub returns-clause-shots : goal.returns-clause-shots
@@ -13,6 +14,10 @@ returns-clause-shots c = record { near = refl; past = refl; far = refl; chain = 
 pub returns-clause-guest_dues : goal.returns-clause-guest_dues
 unfolding timed first_bare first_real nearest
 returns-clause-guest_dues c = record { first = refl; between = refl; next = refl; off = refl }
+
+pub returns-clause-rises : goal.returns-clause-rises
+unfolding low high new_serial with_line
+returns-clause-rises c = record { com1 = refl; com2 = refl; both = refl; neither = refl }
 
 pub returns-clause-edges : goal.returns-clause-edges
 unfolding with_line in_order
