@@ -1,6 +1,10 @@
--- The hardware of a tick, in four steps, and of a run. A rise is latched until it is acknowledged (8259A data sheet, "Interrupt
--- Request Register"); the one-shot is the 8254's counter 0 in mode 0, which rises with the pulse after so many as its count has (8254
--- data sheet, "Mode 0"). When the executive acknowledges and when it sets the one-shot is this project's own.
+-- The hardware of a run, in a tick of four steps. What a reader must believe is `marking`, near the end of this page: both machines before a
+-- tick and after it give the hardware after it and its lines. It is `hardware_tick`, and that is four steps, each a section of its own:
+-- 1. edges of the device step (`device_step`), 2. the drain (`drain_step`), 3. the unit's edges and the line that it took (`unit_step`),
+-- 4. the timer (`timer_step`). Behind them `hardware` is a run's lines, by recursion on the ticks.
+-- A rise is latched until it is acknowledged (8259A data sheet, "Interrupt Request Register"); the one-shot is the 8254's counter 0 in mode 0,
+-- which rises with the pulse after so many as its count has (8254 data sheet, "Mode 0"). When the executive acknowledges and when it sets the
+-- one-shot is this project's own.
 use Rattle.std.specs.Prelude.{ℕ, suc, zero, ◌+◌, ◌-◌, ◌*◌, ◌/◌, ◌==◌, Bool, true, false, not, List, [], ◌∷◌, ◌++◌, map, filter, fold, if◌then◌else◌, Option, Some, None}
 use Rattle.std.specs.List.{range_with_len}
 use Rattle.line_sets.specs.LineSet.{has, with_line, without_line}
