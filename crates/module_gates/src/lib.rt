@@ -4,9 +4,9 @@
 
 mod names;
 
-pub use names::{gate_name, GateName};
-
 ghost use Rattle.module_gates.specs.Worked.{Exhausted, Faults, FifoGates, GateRows, LineGates, Refused, ThreadGates};
+
+pub use names::{GateName, gate_name};
 
 /// What the table of gates gives on small states: results, and the state after each gate and after faults.
 pub fn worked()

@@ -5,7 +5,7 @@ use Rattle.cpu_state.specs.Registers.{eax, ebx, ecx, edx, esi, with_eax, at_eip}
 use Rattle.memory_model.specs.Side.{Side}
 use Rattle.cpu_state.specs.declared.registers.Registers.{Registers}
 use Rattle.line_sets.specs.LineSet.{with_line}
-use Rattle.rt_irqs.specs.Irqs.{Lines, is_held, freed}
+use Rattle.rt_irqs.specs.Irqs.{Lines, is_held}
 use Rattle.port_map.specs.Serial.{Serial, serial_ports, rose, reached}
 use Rattle.port_map.specs.declared.owner.Owner.TheVariants.{RealTime as RealTimeOwner}
 use Rattle.breach_monitor.specs.RealTimeUnit.{Outcome, real_time as real_time_outcome}
@@ -16,11 +16,11 @@ use Rattle.line_kinds.specs.declared.kinds.FaultKind.TheVariants.{Memory}
 use Rattle.line_kinds.specs.declared.kinds.RLine.{RLine}
 use Rattle.line_kinds.specs.declared.kinds.RLine.TheVariants.{Gate, Say, Ret, Fault, Reply}
 use Rattle.line_kinds.specs.declared.kinds.Who.{Who}
-use Rattle.line_kinds.specs.declared.kinds.Who.TheVariants.{Guest, Thread as ThreadOn, Init, Irq, Fifo as FifoOn}
+use Rattle.line_kinds.specs.declared.kinds.Who.TheVariants.{Guest, Thread as ThreadOn}
 use Rattle.line_kinds.specs.Calls.{Call, PutCall, GetCall}
 use Rattle.module_gates.specs.Names.{gate_of}
 use Rattle.rt_threads.specs.declared.threads.Thread.{Thread}
-use Rattle.rt_fifos.specs.Fifos.{FifoReply, put_reply, get_reply, with_mark, without_handler}
+use Rattle.rt_fifos.specs.Fifos.{FifoReply, put_reply, get_reply, with_mark}
 use Rattle.module_gates.specs.Gates.{Request, Answered, gate, after_fault, after_return}
 use Rattle.rt_threads.specs.Threads.{given_registers, thread_at, with_thread}
 use Rattle.priority_schedule.specs.State.{RealTime, parts_of, with_parts}

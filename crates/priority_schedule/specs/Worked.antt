@@ -3,7 +3,6 @@ use Rattle.std.specs.Prelude.{◌≡◌, ℕ, true, false, List, [], ◌∷◌, 
 use Rattle.cpu_state.specs.Registers.{eax, esp, starting}
 use Rattle.memory_model.specs.Side.{word_at}
 use Rattle.line_kinds.specs.declared.kinds.RLine.TheVariants.{Release}
-use Rattle.line_kinds.specs.declared.kinds.Who.{Who}
 use Rattle.line_kinds.specs.declared.kinds.Who.TheVariants.{Guest, Thread as ThreadOn, Init, Irq, Fifo as FifoOn}
 use Rattle.rt_threads.specs.declared.threads.Thread.{Thread}
 use Rattle.rt_threads.specs.declared.threads.State.{State}

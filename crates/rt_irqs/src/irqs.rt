@@ -8,7 +8,7 @@ use line_sets::{
     without_line32,
 };
 use rt_constants::lines::{ALL_LINES, CASCADE_LINE, COM1_LINE, HARD_LINES, TIMER_LINE};
-use rt_constants::{failed, EBUSY, EINVAL};
+use rt_constants::{EBUSY, EINVAL, failed};
 use std::marker::Model;
 
 /// The soft lines, 16 to 31.

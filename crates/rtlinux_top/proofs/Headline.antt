@@ -26,7 +26,7 @@ use Rattle.line_kinds.specs.declared.kinds.Line.TheVariants.{G}
 use Rattle.line_kinds.specs.declared.kinds.RLine.{RLine}
 use Rattle.run_lines.specs.Calls.{calls_of}
 use Rattle.run_lines.specs.Ticks.{stamped, lines_to}
-use Rattle.run_output.specs.Halves.{found, guest_in, real_time_in}
+use Rattle.run_output.specs.Halves.{found, guest_in}
 use Rattle.schedule_laws.specs.Laws.{IsSolution}
 use Rattle.schedule_laws.proofs.Printed.{loses_nothing}
 use Rattle.run_stream.specs.Start.{guest_start}
@@ -135,19 +135,25 @@ found_alone (line ∷ lines) = ap (λ rest. line ∷ rest) (found_alone lines)
 
 halves : (which : Shown) (run : AcceptedRun) (g : List (ℕ × GLine)) (r : List (ℕ × RLine)) → IsSolution (guest_start run) (quiet_start run) run.script.events run.ticks g r → HasHalves which (shown_of which run g r) g r
 halves Guest run g r s = found_alone (take (length g - 1) g)
-halves Both run g r s =
-    (loses_nothing.of_guest false (guest_start run) (quiet_start run) run.script.events run.ticks r (calls_of g) ∙ sym s.guest_half,
-    loses_nothing.of_real false (guest_start run) (quiet_start run) run.script.events run.ticks r (calls_of g) ∙ sym s.real_half)
+halves Both run g r s = (
+  loses_nothing.of_guest false (guest_start run) (quiet_start run) run.script.events run.ticks r (calls_of g) ∙ sym s.guest_half,
+  loses_nothing.of_real false (guest_start run) (quiet_start run) run.script.events run.ticks r (calls_of g) ∙ sym s.real_half,
+)
 
 writes : (verdict : Verdict) (old new : Option (List ℕ)) → ((run : AcceptedRun) → verdict ≡ Ok run → 1 ≤ run.ticks) → new ≡ appended old (output_of verdict)
     → WritesSolution verdict old new
 writes (Ok run) old new some told =
-    let s = shows run (some run refl) in
-    (guest_shown run, (real_shown run, record {
-      solution = s;
-      halves = halves run.shown run (guest_shown run) (real_shown run) s;
-      text = told ∙ ap (λ lines. appended old (text_of lines)) (shown_whole run.shown run);
-    }))
+    let s = shows run (some run refl) in (
+      guest_shown run,
+      (
+        real_shown run,
+        record {
+          solution = s;
+          halves = halves run.shown run (guest_shown run) (real_shown run) s;
+          text = told ∙ ap (λ lines. appended old (text_of lines)) (shown_whole run.shown run);
+        },
+      ),
+    )
 writes (Err about) old new some told = tt
 
 pub headline : (held : Option Files) (asked : Asked) (result : Status) (old new : Option (List ℕ)) → AnswersTo asked held result old new

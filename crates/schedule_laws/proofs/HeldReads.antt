@@ -1,5 +1,5 @@
 -- The lines that modules hold are those that the lines say.
-use Rattle.std.proofs.Common.{◌≡◌, ℕ, zero, suc, ◌+◌, ◌<◌, ◌≤◌, ◌≢◌, Bool, true, false, not, ◌&&◌, ◌==◌, eqb, nat_lt, nat_le, refl, sym, ap, ◌∙◌, arith, List, [], ◌∷◌, ◌++◌, length, if◌then◌else◌, Option, Some, None, fold, set, get_or, is_some, is_none, position, subst, replicate, ℤ, pos, negsuc, ⊎_elim, count_by}
+use Rattle.std.proofs.Common.{◌≡◌, ℕ, zero, suc, ◌+◌, ◌<◌, ◌≤◌, ◌≢◌, Bool, true, false, not, ◌&&◌, ◌==◌, eqb, refl, sym, ap, ◌∙◌, arith, List, [], ◌∷◌, ◌++◌, length, if◌then◌else◌, Option, Some, None, fold, set, get_or, is_some, subst, replicate, ℤ, pos, negsuc, ⊎_elim, count_by}
 use Rattle.std.proofs.Math.ListN.{length-set}
 use Rattle.std.proofs.lemmas.Bool.Decides.{nat_tests, eqb_tells}
 use Rattle.std.proofs.lemmas.List.{get_or-set_same, get_or-set_other}
@@ -28,7 +28,7 @@ use Rattle.module_gates.specs.Names.{gate_of}
 use Rattle.run_lines.specs.Says.{after_line_gate, after_line_result, after_owner, held}
 use Rattle.run_lines.specs.Ticks.{at_tick}
 use Rattle.rt_threads.specs.declared.threads.State.TheVariants.{Ready, Waiting}
-use Rattle.rt_threads.specs.Threads.{with_state, with_period, is_plan, is_priority, with_next, with_priority, thread_at, with_thread, priority_of, free_number}
+use Rattle.rt_threads.specs.Threads.{with_state, with_period, is_plan, is_priority, with_next, with_priority, with_thread, priority_of, free_number}
 use Rattle.rt_constants.specs.declared.errors.TheConstants.{EBUSY, EINVAL}
 use Rattle.rt_constants.specs.Errors.{failed}
 use Rattle.module_gates.specs.Gates.{Request, GateParts, Answered, fails, succeeds, created, left, woken, deleted, suspended, gate_row, Range, range_of, gate_in}

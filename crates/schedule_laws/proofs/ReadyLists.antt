@@ -1,8 +1,8 @@
 -- The ready list is just the threads in state ready: four shapes of change keep it, and every gate, release and unit has one of them.
-use Rattle.std.proofs.Common.{◌≡◌, ◌≢◌, ℕ, zero, suc, ◌+◌, ◌-◌, ◌<◌, ◌≤◌, Bool, true, false, not, ◌&&◌, ◌||◌, cond, ◌==◌, eqb, refl, sym, ap, ◌∙◌, arith, List, [], ◌∷◌, ◌++◌, length, if◌then◌else◌, Option, Some, None, filter, subst, option_map, set, get_or, is_none, is_some, position, replicate, ⊎_elim}
+use Rattle.std.proofs.Common.{◌≡◌, ◌≢◌, ℕ, zero, suc, ◌+◌, ◌-◌, ◌<◌, Bool, true, false, not, ◌&&◌, ◌||◌, cond, ◌==◌, eqb, refl, sym, ap, ◌∙◌, arith, List, [], ◌∷◌, ◌++◌, length, if◌then◌else◌, Option, Some, None, subst, option_map, set, is_none, is_some, replicate, ⊎_elim}
 use Rattle.std.proofs.Math.ListN.{length-set}
 use Rattle.std.proofs.lemmas.Bool.Decides.{nat_tests, eqb_tells}
-use Rattle.std.proofs.lemmas.List.{get_or-set_same, get_or-set_other, get_or_past}
+use Rattle.std.proofs.lemmas.List.{get_or-set_same, get_or-set_other}
 use Rattle.std.proofs.lemmas.List.Quantifiers.{position-Some}
 use Rattle.cpu_state.specs.Registers.{starting}
 use Rattle.cpu_state.specs.declared.registers.Registers.{Registers}
@@ -13,19 +13,17 @@ use Rattle.line_kinds.specs.declared.kinds.Who.{Who}
 use Rattle.line_kinds.specs.declared.kinds.Who.TheVariants.{Guest, Thread as ThreadOn, Init, Irq, Fifo as FifoOn}
 use Rattle.line_kinds.specs.declared.kinds.RLine.TheVariants.{On}
 use Rattle.line_kinds.specs.Calls.{Call, PutCall, GetCall}
-use Rattle.port_map.specs.Serial.{Serial}
 use Rattle.device_script.specs.declared.event.Event.{Event}
-use Rattle.breach_monitor.specs.RealTimeUnit.{Outcome}
 use Rattle.rt_threads.specs.declared.threads.Thread.{Thread}
 use Rattle.rt_threads.specs.declared.threads.State.TheVariants.{Ready, Waiting, Suspended}
-use Rattle.rt_threads.specs.Threads.{thread_at, is_live, is_ready_state, is_ready_in, due_of, priority_of, due_held, with_thread, with_state, with_period, with_next, with_priority, given_registers, new_thread, free_number, has_period, is_priority, is_span, is_plan}
+use Rattle.rt_threads.specs.Threads.{thread_at, is_live, is_ready_state, is_ready_in, due_of, priority_of, due_held, with_thread, with_state, with_period, with_next, with_priority, given_registers, new_thread, free_number, is_priority, is_plan}
 use Rattle.rt_timeline.specs.declared.timeline.ThreadDue.{ThreadDue}
 use Rattle.rt_timeline.specs.Dues.{come}
 use Rattle.rt_ready.specs.Order.{Arrival, is_ready, without, joined, each_once}
 use Rattle.module_gates.specs.declared.names.GateName.{GateName}
 use Rattle.module_gates.specs.declared.names.GateName.TheVariants.{Gethrtime, PthreadCreate, PthreadDelete, PthreadSuspend, PthreadWakeup, PthreadMakePeriodic, PthreadWait, PthreadSelf, PthreadSetprio, PthreadGetprio, FifoCreate, FifoDestroy, FifoPut, FifoGet, FifoFlush, FifoCreateHandler, FifoCount, RequestIrq, FreeIrq, GetSoftIrq, FreeSoftIrq, PendIrq, Nanosleep, Print, Other}
 use Rattle.module_gates.specs.Names.{gate_of}
-use Rattle.module_gates.specs.Gates.{Request, GateParts, Answered, succeeds, fails, has_stack, created, deleted, left, suspended, woken, of_thread, pthread_wait, nanosleep, gate_row, Range, range_of, gate_in, after_fault, after_return}
+use Rattle.module_gates.specs.Gates.{Request, GateParts, Answered, succeeds, fails, created, deleted, left, suspended, woken, gate_row, Range, range_of, gate_in, after_fault, after_return}
 use Rattle.run_lines.specs.Calls.{call_at}
 use Rattle.run_lines.specs.Ticks.{at_tick}
 use Rattle.priority_schedule.specs.Pick.{pick}
@@ -33,7 +31,7 @@ use Rattle.priority_schedule.specs.Release.{Ticking, nearest, with_released, whi
 use Rattle.priority_schedule.specs.Run.{real_after}
 use Rattle.priority_schedule.specs.State.{RealTime, RealTimeStart, first_state, parts_of, with_parts}
 use Rattle.priority_schedule.specs.Tick.{begun, devices, is_on, started, turned_to, picked, opened, real_time_tick}
-use Rattle.priority_schedule.specs.Unit.{RealUnit, with_registers, with_com2, performed_unit, gate_answer, call_unit, unit_of}
+use Rattle.priority_schedule.specs.Unit.{RealUnit, with_registers, with_com2, gate_answer, call_unit, unit_of}
 use Rattle.priority_schedule.proofs.Dues.{come_of}
 use Rattle.schedule_laws.specs.Laws.{IsReadyList}
 use Rattle.schedule_laws.proofs.UnitCases.{Kinds, every_kind}

@@ -1,5 +1,5 @@
 -- Each row of the gate table changes the threads as its line says.
-use Rattle.std.proofs.Common.{◌≡◌, ℕ, ◌+◌, ◌-◌, ◌<◌, Bool, true, false, ◌&&◌, refl, sym, ap, ◌∙◌, List, [], ◌∷◌, ◌++◌, length, if◌then◌else◌, Option, Some, None, subst, set, ℤ, pos, negsuc, is_some, is_none, option_map, position}
+use Rattle.std.proofs.Common.{◌≡◌, ℕ, ◌+◌, ◌-◌, ◌<◌, Bool, true, false, refl, sym, ap, ◌∙◌, List, [], ◌∷◌, ◌++◌, length, if◌then◌else◌, Option, Some, None, subst, set, ℤ, pos, negsuc, is_some, is_none, option_map}
 use Rattle.std.proofs.lemmas.List.{length-map, get_or-set_same}
 use Rattle.std.proofs.lemmas.List.Quantifiers.{position-Some}
 use Rattle.memory_model.specs.Side.{bytes_at, first_outside}
@@ -10,12 +10,12 @@ use Rattle.line_kinds.specs.declared.kinds.Who.{Who}
 use Rattle.line_kinds.specs.declared.kinds.Who.TheVariants.{Guest, Thread as ThreadOn, Init, Irq, Fifo as FifoOn}
 use Rattle.rt_threads.specs.declared.threads.Thread.{Thread}
 use Rattle.rt_threads.specs.declared.threads.State.TheVariants.{Ready, Waiting, Suspended}
-use Rattle.rt_threads.specs.Threads.{thread_at, is_live, priority_of, with_thread, with_state, with_period, with_next, with_priority, new_thread, free_number, has_period, is_priority, is_span, is_plan}
-use Rattle.rt_ready.specs.Order.{without, joined, is_ready}
+use Rattle.rt_threads.specs.Threads.{thread_at, is_live, priority_of, with_thread, with_state, with_period, with_next, with_priority, new_thread, free_number, has_period, is_priority}
+use Rattle.rt_ready.specs.Order.{joined, is_ready}
 use Rattle.rt_fifos.specs.Fifos.{put_reply, get_reply, create_reply, destroy_reply, flush_reply, set_handler_reply, count_reply}
 use Rattle.module_gates.specs.declared.names.GateName.{GateName}
 use Rattle.module_gates.specs.declared.names.GateName.TheVariants.{Gethrtime, PthreadCreate, PthreadDelete, PthreadSuspend, PthreadWakeup, PthreadMakePeriodic, PthreadWait, PthreadSelf, PthreadSetprio, PthreadGetprio, FifoCreate, FifoDestroy, FifoPut, FifoGet, FifoFlush, FifoCreateHandler, FifoCount, RequestIrq, FreeIrq, GetSoftIrq, FreeSoftIrq, PendIrq, Nanosleep, Print, Other}
-use Rattle.module_gates.specs.Gates.{Request, GateParts, Answered, succeeds, fails, on_live, has_stack, created, deleted, left, suspended, woken, of_thread, pthread_wait, pthread_setprio, nanosleep, gate_row, Range, range_of, gate_in, gate}
+use Rattle.module_gates.specs.Gates.{Request, GateParts, Answered, succeeds, fails, on_live, created, deleted, left, suspended, woken, of_thread, pthread_wait, pthread_setprio, nanosleep, gate_row, Range, range_of, gate_in, gate}
 use Rattle.priority_schedule.specs.Priority.{Seen, after_gate, after_result, caller_waits, is_in, leaves, joins, has_priority, ReadyLive}
 use Rattle.schedule_laws.proofs.Reading.{Reads, priorities, priorities-kept, priorities-set, ready-ids, reads_left, reads_joined, reads_ended, ids-joined, priority_in_slot, joins_live, priority_live}
 

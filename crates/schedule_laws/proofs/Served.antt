@@ -372,7 +372,7 @@ drained_calm k events before h s few open_ =
     let d = device_step t events before (devices_of events before) (record { hardware = h; lines = [] }) in
     let a = after_device k events before (devices_of events before) h [] s in
     let threads : chosen.real.threads ≡ (drained true t x).real.threads =
-        picked_threads (drains before.real) (drained (drains before.real) t x) ∙ ap (λ b. (drained b t x).real.threads) open_ in
+    picked_threads (drains before.real) (drained (drains before.real) t x) ∙ ap (λ b. (drained b t x).real.threads) open_ in
     let size : length x.real.threads ≤ THREADS_LIMIT = subst (λ ts. length ts ≤ THREADS_LIMIT) (sym (device_threads events before.real)) few in
     let acks : List HLine = d.lines ++ map Ack (in_order d.hardware.latch) in
     let noted : Hardware = record d.hardware { latch = 0; last = t } in
