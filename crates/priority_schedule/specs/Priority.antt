@@ -5,9 +5,9 @@ use Rattle.line_kinds.specs.declared.kinds.RLine.{RLine}
 use Rattle.line_kinds.specs.declared.kinds.RLine.TheVariants.{Release, On, Gate, Ret, Fault}
 use Rattle.line_kinds.specs.declared.kinds.Who.{Who}
 use Rattle.line_kinds.specs.declared.kinds.Who.TheVariants.{Guest, Thread}
-use Rattle.module_gates.specs.declared.names.GateName.{GateName}
-use Rattle.module_gates.specs.declared.names.GateName.TheVariants.{PthreadCreate, PthreadDelete, PthreadSuspend, PthreadWakeup, PthreadMakePeriodic, PthreadWait, PthreadSetprio, Nanosleep}
-use Rattle.module_gates.specs.Names.{gate_of}
+use Rattle.gate_table.specs.declared.names.GateName.{GateName}
+use Rattle.gate_table.specs.declared.names.GateName.TheVariants.{PthreadCreate, PthreadDelete, PthreadSuspend, PthreadWakeup, PthreadMakePeriodic, PthreadWait, PthreadSetprio, Nanosleep}
+use Rattle.gate_table.specs.Names.{gate_of}
 use Rattle.run_lines.specs.Says.{ebx_of, holder}
 use Rattle.run_lines.specs.Ticks.{at_tick}
 use Rattle.rt_constants.specs.declared.limits.TheConstants.{THREADS_LIMIT}

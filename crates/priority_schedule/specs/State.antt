@@ -11,7 +11,7 @@ use Rattle.rt_constants.specs.declared.limits.TheConstants.{THREADS_LIMIT, FIFOS
 use Rattle.rt_threads.specs.declared.threads.Thread.{Thread}
 use Rattle.rt_ready.specs.Order.{Arrival}
 use Rattle.rt_fifos.specs.Fifos.{Fifo}
-use Rattle.module_gates.specs.Gates.{GateParts}
+use Rattle.gate_table.specs.Gates.{GateParts}
 
 -- a module's number and the entry of its init
 pub record Module : Type 0 where

@@ -1,7 +1,7 @@
 -- The unit of what is on: one instruction of a real-time activity with its gate, return or fault, or the guest's call on FIFOs.
 use Rattle.std.specs.Prelude.{ℕ, suc, zero, Bool, true, false, ◌&&◌, List, [], ◌∷◌, if◌then◌else◌, Option, Some, None, ℤ, pos, negsuc}
 use Rattle.std.specs.Int.{cast_unsigned, w32}
-use Rattle.cpu_state.specs.Registers.{eax, ebx, ecx, edx, esi, with_eax, at_eip}
+use Rattle.cpu_state.specs.Registers.{with_eax, at_eip}
 use Rattle.memory_model.specs.Side.{Side}
 use Rattle.cpu_state.specs.declared.registers.Registers.{Registers}
 use Rattle.line_sets.specs.LineSet.{with_line}
@@ -18,10 +18,10 @@ use Rattle.line_kinds.specs.declared.kinds.RLine.TheVariants.{Gate, Say, Ret, Fa
 use Rattle.line_kinds.specs.declared.kinds.Who.{Who}
 use Rattle.line_kinds.specs.declared.kinds.Who.TheVariants.{Guest, Thread as ThreadOn}
 use Rattle.line_kinds.specs.Calls.{Call, PutCall, GetCall}
-use Rattle.module_gates.specs.Names.{gate_of}
+use Rattle.gate_table.specs.Names.{gate_of}
 use Rattle.rt_threads.specs.declared.threads.Thread.{Thread}
 use Rattle.rt_fifos.specs.Fifos.{FifoReply, put_reply, get_reply, with_mark}
-use Rattle.module_gates.specs.Gates.{Request, Answered, gate, after_fault, after_return}
+use Rattle.gate_table.specs.Gates.{Request, Answered, gate, request_of, after_fault, after_return}
 use Rattle.rt_threads.specs.Threads.{given_registers, thread_at, with_thread}
 use Rattle.priority_schedule.specs.State.{RealTime, parts_of, with_parts}
 
@@ -72,9 +72,6 @@ abbrev pub return_unit : Who → RealTime → RealUnit
 return_unit who m = record { after = with_parts (after_return who (parts_of m)) m; lines = Ret ∷ []; ended = true }
 
 -- INT F8h: a gate. Its result goes to EAX, and the activity goes on behind it
-
-abbrev pub request_of : Registers → Request
-request_of r = record { function = eax r; ebx = ebx r; ecx = ecx r; edx = edx r; esi = esi r }
 
 abbrev pub gate_line : Request → ℤ → RLine
 gate_line q result = Gate q.function (q.ebx ∷ q.ecx ∷ q.edx ∷ q.esi ∷ []) result

@@ -8,7 +8,7 @@ use Rattle.line_kinds.specs.declared.kinds.RLine.TheVariants.{On, Gate, Fault, R
 use Rattle.line_kinds.specs.declared.kinds.Who.TheVariants.{Guest, Thread, Irq}
 use Rattle.line_kinds.specs.Calls.{PutCall, GetCall}
 use Rattle.run_lines.specs.Calls.{calls_of, call_at}
-use Rattle.module_gates.specs.Names.{gate_of}
+use Rattle.gate_table.specs.Names.{gate_of}
 use Rattle.run_lines.specs.Says.{holder, held, pended, reply_in, is_timer_tick, asks}
 use Rattle.run_lines.specs.Ticks.{lines_to}
 

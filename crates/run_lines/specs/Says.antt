@@ -2,9 +2,9 @@
 -- to the guest's call.
 use Rattle.std.specs.Prelude.{ℕ, zero, suc, ◌-◌, ◌%◌, ◌==◌, nat_lt, Bool, true, false, ◌&&◌, ℤ, pos, negsuc, List, [], ◌∷◌, fold, slice_index, if◌then◌else◌, Option, Some, None}
 use Rattle.line_sets.specs.LineSet.{has, with_line, without_line}
-use Rattle.module_gates.specs.declared.names.GateName.{GateName}
-use Rattle.module_gates.specs.declared.names.GateName.TheVariants.{RequestIrq, FreeIrq, PendIrq}
-use Rattle.module_gates.specs.Names.{gate_of}
+use Rattle.gate_table.specs.declared.names.GateName.{GateName}
+use Rattle.gate_table.specs.declared.names.GateName.TheVariants.{RequestIrq, FreeIrq, PendIrq}
+use Rattle.gate_table.specs.Names.{gate_of}
 use Rattle.run_lines.specs.Ticks.{at_tick}
 use Rattle.line_kinds.specs.declared.kinds.RLine.{RLine}
 use Rattle.line_kinds.specs.declared.kinds.RLine.TheVariants.{On, Gate, Fault, Reply}

@@ -22,16 +22,16 @@ use Rattle.memory_model.specs.Side.{first_outside}
 use Rattle.port_map.specs.SerialLine.{byte_sent}
 use Rattle.line_kinds.specs.Calls.{Call, PutCall, GetCall}
 use Rattle.run_lines.specs.Calls.{call_at}
-use Rattle.module_gates.specs.declared.names.GateName.{GateName}
-use Rattle.module_gates.specs.declared.names.GateName.TheVariants.{Gethrtime, PthreadCreate, PthreadDelete, PthreadSuspend, PthreadWakeup, PthreadMakePeriodic, PthreadWait, PthreadSelf, PthreadSetprio, PthreadGetprio, FifoCreate, FifoDestroy, FifoPut, FifoGet, FifoFlush, FifoCreateHandler, FifoCount, RequestIrq, FreeIrq, GetSoftIrq, FreeSoftIrq, PendIrq, Nanosleep, Print, Other}
-use Rattle.module_gates.specs.Names.{gate_of}
+use Rattle.gate_table.specs.declared.names.GateName.{GateName}
+use Rattle.gate_table.specs.declared.names.GateName.TheVariants.{Gethrtime, PthreadCreate, PthreadDelete, PthreadSuspend, PthreadWakeup, PthreadMakePeriodic, PthreadWait, PthreadSelf, PthreadSetprio, PthreadGetprio, FifoCreate, FifoDestroy, FifoPut, FifoGet, FifoFlush, FifoCreateHandler, FifoCount, RequestIrq, FreeIrq, GetSoftIrq, FreeSoftIrq, PendIrq, Nanosleep, Print, Other}
+use Rattle.gate_table.specs.Names.{gate_of}
 use Rattle.run_lines.specs.Says.{after_line_gate, after_line_result, after_owner, held}
 use Rattle.run_lines.specs.Ticks.{at_tick}
 use Rattle.rt_threads.specs.declared.threads.State.TheVariants.{Ready, Waiting}
 use Rattle.rt_threads.specs.Threads.{with_state, with_period, is_plan, is_priority, with_next, with_priority, with_thread, priority_of, free_number}
 use Rattle.rt_constants.specs.declared.errors.TheConstants.{EBUSY, EINVAL}
 use Rattle.rt_constants.specs.Errors.{failed}
-use Rattle.module_gates.specs.Gates.{Request, GateParts, Answered, fails, succeeds, created, left, woken, deleted, suspended, gate_row, Range, range_of, gate_in}
+use Rattle.gate_table.specs.Gates.{Request, GateParts, Answered, fails, succeeds, created, left, woken, deleted, suspended, gate_row, Range, range_of, gate_in}
 use Rattle.priority_schedule.specs.Pick.{pick}
 use Rattle.rt_constants.specs.declared.limits.TheConstants.{THREADS_LIMIT}
 use Rattle.rt_timeline.specs.declared.timeline.ThreadDue.{ThreadDue}

@@ -7,8 +7,8 @@ use Rattle.rt_ready.specs.Order.{Arrival, without, joined, is_ready}
 use Rattle.rt_threads.specs.Threads.{thread_at, with_thread, is_live}
 use Rattle.priority_schedule.specs.State.{RealTime}
 use Rattle.rt_threads.specs.declared.threads.Thread.{Thread}
-use Rattle.module_gates.specs.declared.names.GateName.{GateName}
-use Rattle.module_gates.specs.declared.names.GateName.TheVariants.{PthreadCreate, PthreadDelete, PthreadSuspend, PthreadWakeup, PthreadMakePeriodic, PthreadWait, PthreadSetprio, Nanosleep}
+use Rattle.gate_table.specs.declared.names.GateName.{GateName}
+use Rattle.gate_table.specs.declared.names.GateName.TheVariants.{PthreadCreate, PthreadDelete, PthreadSuspend, PthreadWakeup, PthreadMakePeriodic, PthreadWait, PthreadSetprio, Nanosleep}
 use Rattle.line_kinds.specs.declared.kinds.Who.{Who}
 use Rattle.line_kinds.specs.declared.kinds.Who.TheVariants.{Guest, Thread as ThreadOn, Init, Irq, Fifo}
 

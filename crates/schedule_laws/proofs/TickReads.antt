@@ -7,7 +7,7 @@ use Rattle.breach_monitor.specs.RealTimeUnit.{Outcome}
 use Rattle.port_map.specs.SerialLine.{byte_sent}
 use Rattle.device_script.specs.declared.event.Event.{Event}
 use Rattle.cpu_state.specs.declared.registers.Registers.{Registers}
-use Rattle.module_gates.specs.Gates.{Request, GateParts, Answered, after_fault, after_return}
+use Rattle.gate_table.specs.Gates.{Request, GateParts, Answered, after_fault, after_return}
 use Rattle.priority_schedule.specs.Priority.{Seen, after_line, thread_ends, is_release, joins}
 use Rattle.rt_constants.specs.declared.limits.TheConstants.{THREADS_LIMIT}
 use Rattle.rt_timeline.specs.declared.timeline.ThreadDue.{ThreadDue}
@@ -19,7 +19,7 @@ use Rattle.priority_schedule.specs.Tick.{begun, com2_lines, after_devices, devic
 use Rattle.priority_schedule.specs.Unit.{RealUnit, with_registers, with_com2, performed_unit, return_unit, gate_answer, gate_line, printed_lines, call_unit, unit_of}
 use Rattle.rt_threads.specs.declared.threads.State.TheVariants.{Ready}
 use Rattle.line_kinds.specs.Calls.{Call, PutCall, GetCall}
-use Rattle.module_gates.specs.Names.{gate_of}
+use Rattle.gate_table.specs.Names.{gate_of}
 use Rattle.run_lines.specs.Says.{held_by}
 use Rattle.line_kinds.specs.declared.kinds.RLine.{RLine}
 use Rattle.line_kinds.specs.declared.kinds.RLine.TheVariants.{Com2, Release, On, Gate, Say, Ret, Fault, Reply, End, Memory}

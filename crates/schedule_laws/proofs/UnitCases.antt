@@ -10,11 +10,11 @@ use Rattle.line_kinds.specs.declared.kinds.Who.{Who}
 use Rattle.line_kinds.specs.declared.kinds.Who.TheVariants.{Guest, Thread, Init, Irq, Fifo}
 use Rattle.cpu_state.specs.Registers.{at_eip}
 use Rattle.line_kinds.specs.Calls.{Call, PutCall, GetCall}
-use Rattle.module_gates.specs.Names.{gate_of}
+use Rattle.gate_table.specs.Names.{gate_of}
 use Rattle.run_lines.specs.Says.{held_by}
-use Rattle.module_gates.specs.Gates.{Request, Answered, gate}
+use Rattle.gate_table.specs.Gates.{Request, Answered, gate, request_of}
 use Rattle.priority_schedule.specs.State.{RealTime, parts_of}
-use Rattle.priority_schedule.specs.Unit.{RealUnit, performed_unit, fault_unit, return_unit, gate_answer, registers_of, request_of, came_to, outcome_at, activity_unit, call_unit, unit_of, gate_line, printed_lines}
+use Rattle.priority_schedule.specs.Unit.{RealUnit, performed_unit, fault_unit, return_unit, gate_answer, registers_of, came_to, outcome_at, activity_unit, call_unit, unit_of, gate_line, printed_lines}
 
 -- a fact of the four kinds of unit is one of every unit
 pub record Kinds (t : ℕ) (who : Who) (m : RealTime) (P : RealUnit → Type 0) : Type 0 where

@@ -35,7 +35,7 @@ use Rattle.soft_gates.specs.Service.{service}
 use Rattle.line_sets.specs.LineSet.{union, common, minus, with_line, without_line, first_in}
 use Rattle.rt_irqs.specs.Irqs.{next_of, free_soft_line}
 use Rattle.hard_dispatch.specs.Service.{in_order}
-use Rattle.module_gates.specs.Names.{gate_of}
+use Rattle.gate_table.specs.Names.{gate_of}
 use Rattle.run_lines.specs.Says.{holder, held}
 use Rattle.run_lines.specs.Ticks.{lines_to}
 use Rattle.breach_monitor.specs.SerialUnit.{unit_at}

@@ -4,7 +4,8 @@
 -- a thread's priority. Their numbers, registers and limits are this project's own.
 use Rattle.std.specs.Prelude.{ℕ, ◌+◌, ◌-◌, nat_lt, nat_le, Bool, true, ◌&&◌, List, slice_set, if◌then◌else◌, Option, Some, None, is_some, ℤ, pos}
 use Rattle.memory_model.specs.Side.{Side, inside, bytes_at, stored, word_stored, first_outside}
-use Rattle.cpu_state.specs.Registers.{starting}
+use Rattle.cpu_state.specs.declared.registers.Registers.{Registers}
+use Rattle.cpu_state.specs.Registers.{starting, eax, ebx, ecx, edx, esi}
 use Rattle.rt_constants.specs.Errors.{failed}
 use Rattle.rt_constants.specs.declared.errors.TheConstants.{EAGAIN, EINVAL}
 use Rattle.rt_constants.specs.declared.limits.TheConstants.{BYTES_LIMIT}
@@ -16,16 +17,13 @@ use Rattle.rt_threads.specs.declared.threads.State.TheVariants.{Ready, Waiting, 
 use Rattle.rt_threads.specs.Threads.{thread_at, is_live, priority_of, with_thread, with_state, with_period, with_next, with_priority, new_thread, free_number, has_period, is_priority, is_span, is_plan}
 use Rattle.rt_ready.specs.Order.{Arrival, is_ready, without, joined}
 use Rattle.rt_fifos.specs.Fifos.{Fifo, FifoReply, put_reply, get_reply, create_reply, destroy_reply, flush_reply, set_handler_reply, count_reply, without_handler}
-use Rattle.module_gates.specs.declared.names.GateName.{GateName}
-use Rattle.module_gates.specs.declared.names.GateName.TheVariants.{Gethrtime, PthreadCreate, PthreadDelete, PthreadSuspend, PthreadWakeup, PthreadMakePeriodic, PthreadWait, PthreadSelf, PthreadSetprio, PthreadGetprio, FifoCreate, FifoDestroy, FifoPut, FifoGet, FifoFlush, FifoCreateHandler, FifoCount, RequestIrq, FreeIrq, GetSoftIrq, FreeSoftIrq, PendIrq, Nanosleep, Print, Other}
+pub use Rattle.gate_table.specs.declared.request.Request.{Request}
+use Rattle.gate_table.specs.declared.names.GateName.{GateName}
+use Rattle.gate_table.specs.declared.names.GateName.TheVariants.{Gethrtime, PthreadCreate, PthreadDelete, PthreadSuspend, PthreadWakeup, PthreadMakePeriodic, PthreadWait, PthreadSelf, PthreadSetprio, PthreadGetprio, FifoCreate, FifoDestroy, FifoPut, FifoGet, FifoFlush, FifoCreateHandler, FifoCount, RequestIrq, FreeIrq, GetSoftIrq, FreeSoftIrq, PendIrq, Nanosleep, Print, Other}
 
--- what an activity asks for: a function and four words
-pub record Request : Type 0 where
-  pub function : ℕ
-  pub ebx : ℕ
-  pub ecx : ℕ
-  pub edx : ℕ
-  pub esi : ℕ
+-- what an activity asks for, by its registers
+abbrev pub request_of : Registers → Request
+request_of r = record { function = eax r; ebx = ebx r; ecx = ecx r; edx = edx r; esi = esi r }
 
 -- what gates use of the real-time side: thread n at place n of 64, the ready threads in order of arrival, the interrupt lines, FIFO n
 -- at place n of 64, and the side
@@ -78,6 +76,9 @@ pthread_create t q p = if is_priority q.ecx && has_stack q p then created t q p 
 abbrev pub deleted : ℕ → GateParts → GateParts
 deleted i p = record p { threads = slice_set p.threads i None; ready = without i p.ready }
 
+abbrev pub pthread_delete : ℕ → GateParts → Answered
+pthread_delete i p = on_live i p (succeeds 0 (deleted i p))
+
 -- a thread leaves the ready list with a change of its own
 abbrev pub left : ℕ → (Thread → Thread) → GateParts → GateParts
 left i change p = record p { threads = with_thread i change p.threads; ready = without i p.ready }
@@ -86,11 +87,17 @@ left i change p = record p { threads = with_thread i change p.threads; ready = w
 abbrev pub suspended : ℕ → GateParts → GateParts
 suspended i p = left i (with_state Suspended) p
 
+abbrev pub pthread_suspend : ℕ → GateParts → Answered
+pthread_suspend i p = on_live i p (succeeds 0 (suspended i p))
+
 -- 5: a suspended or waiting thread becomes ready, last; a ready one stays as it is
 abbrev pub woken : ℕ → ℕ → GateParts → GateParts
 woken t i p =
     if is_ready i p.ready then p
     else record p { threads = with_thread i (with_state Ready) p.threads; ready = joined i t p.ready }
+
+abbrev pub pthread_wakeup : ℕ → ℕ → GateParts → Answered
+pthread_wakeup t i p = on_live i p (succeeds 0 (woken t i p))
 
 -- 6: a thread has the period EDX and its next due at ECX, until which it waits
 abbrev pub pthread_make_periodic : Request → GateParts → Answered
@@ -145,9 +152,9 @@ print q p = record { result = pos 0; printed = Some (bytes_at p.side q.ebx q.ecx
 abbrev pub gate_row : ℕ → Who → Request → GateParts → GateName → Answered
 gate_row t who q p Gethrtime = succeeds t p
 gate_row t who q p PthreadCreate = pthread_create t q p
-gate_row t who q p PthreadDelete = on_live q.ebx p (succeeds 0 (deleted q.ebx p))
-gate_row t who q p PthreadSuspend = on_live q.ebx p (succeeds 0 (suspended q.ebx p))
-gate_row t who q p PthreadWakeup = on_live q.ebx p (succeeds 0 (woken t q.ebx p))
+gate_row t who q p PthreadDelete = pthread_delete q.ebx p
+gate_row t who q p PthreadSuspend = pthread_suspend q.ebx p
+gate_row t who q p PthreadWakeup = pthread_wakeup t q.ebx p
 gate_row t who q p PthreadMakePeriodic = pthread_make_periodic q p
 gate_row t who q p PthreadWait = of_thread who p (pthread_wait p)
 gate_row t who q p PthreadSelf = of_thread who p (λ i. succeeds i p)

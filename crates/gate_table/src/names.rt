@@ -1,6 +1,6 @@
 // The names of the gates.
 ghost use Rattle.std.specs.Prelude.{◌≡◌};
-ghost use Rattle.module_gates.specs.Names.{gate_of};
+ghost use Rattle.gate_table.specs.Names.{gate_of};
 
 /// A gate of real-time activities, as RTLinux 3 and POSIX name it; `Other` is every function that isn't one.
 #[derive(Clone, Copy, Debug, PartialEq, Eq)]

@@ -1,9 +1,9 @@
 use Rattle.std.proofs.Common.{◌≤◌, sym, arith}
 use Rattle.std.proofs.lemmas.Bool.Decides.{nat_tests}
 use Rattle.std.proofs.lemmas.List.{get_or_past}
-use Rattle.module_gates.specs.Names.{all_gates, gate_of}
-use Rattle.module_gates.specs.declared.names.GateName.TheVariants.{Other}
-use Rattle.module_gates.proofs.names.gate_name.Goals as goal
+use Rattle.gate_table.specs.Names.{all_gates, gate_of}
+use Rattle.gate_table.specs.declared.names.GateName.TheVariants.{Other}
+use Rattle.gate_table.proofs.names.gate_name.Goals as goal
 
 pub returns-else-function-lt25 : goal.returns-else-function-lt25
 unfolding gate_of

@@ -13,8 +13,8 @@ use Rattle.rt_threads.specs.declared.threads.State.{State}
 use Rattle.rt_threads.specs.declared.threads.State.TheVariants.{Ready, Waiting, Suspended}
 use Rattle.rt_ready.specs.Order.{Arrival}
 use Rattle.rt_fifos.specs.Fifos.{Fifo}
-use Rattle.module_gates.specs.Names.{gate_of}
-use Rattle.module_gates.specs.Gates.{GateParts, Answered, gate, after_fault, after_return}
+use Rattle.gate_table.specs.Names.{gate_of}
+use Rattle.gate_table.specs.Gates.{GateParts, Answered, gate, after_fault, after_return}
 
 -- A state: thread 0 waits until 6, threads 1 and 2 until 4, thread 3 is suspended, and thread 4 is ready, with the period 5 and its next
 -- due at 30. The 16 bytes of the side, from 100h on, are 1 to 16. Line 7 is held with its handler at 40h, and marked; soft line 17 is

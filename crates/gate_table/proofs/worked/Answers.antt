@@ -4,9 +4,9 @@ use Rattle.line_sets.specs.LineSet.{with_line, without_line}
 use Rattle.rt_irqs.specs.Irqs.{free_soft_line}
 use Rattle.memory_model.specs.Side.{first_outside}
 use Rattle.rt_fifos.specs.Fifos.{put_reply, get_reply, without_handler}
-use Rattle.module_gates.specs.Names.{gate_of}
-use Rattle.module_gates.specs.Worked.{some_parts, full_parts}
-use Rattle.module_gates.proofs.worked.Goals as goal
+use Rattle.gate_table.specs.Names.{gate_of}
+use Rattle.gate_table.specs.Worked.{some_parts, full_parts}
+use Rattle.gate_table.proofs.worked.Goals as goal
 
 pub returns-clause-results : goal.returns-clause-results
 unfolding some_parts starting gate_of first_outside put_reply get_reply free_soft_line with_line without_line
