@@ -6,7 +6,7 @@ ghost use Rattle.flat_memory.specs.Side.{side_at, side_of};
 ghost use Rattle.elf_loader.specs.Place.{span_of, all_inside, with_segment, with_segments, Fits, FitsOn, Placed, Takes, TakesAll};
 
 use crate::image::{Image, Segment};
-use crate::spans::Spans;
+use crate::spans::{Spans, has_room};
 use flat_memory::{Side, fits};
 
 /// Why an image isn't placed. Nothing has changed then.
@@ -55,7 +55,7 @@ fn is_inside(side: &Side<'_>, segment: &Segment) -> bool
 fn take_one(taken: &mut Spans, span: (u32, u32)) -> Result<(), PlaceRefusal>
     ensures { Takes taken.old taken.new result span }
 {
-    if !taken.has_room(span) {
+    if !has_room(taken.as_slice(), span) {
         return Err(PlaceRefusal::Overlap);
     }
     match taken.push(span) {

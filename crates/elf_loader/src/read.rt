@@ -9,8 +9,7 @@ use crate::header::{
     table_count, table_offset,
 };
 use crate::image::{ElfRefusal, Image, Segment};
-use crate::segments::Segments;
-use outside_io::Content;
+use item_list::Items;
 use std::alloc::Global;
 
 /// Reads the bytes of an ELF32 file. Each part of type PT_LOAD that has a size in memory is a segment at its virtual
@@ -44,30 +43,30 @@ fn check_headers(bytes: &[u8], table: usize, count: usize) -> Result<(), ElfRefu
 }
 
 // The segments that good program headers name.
-fn segments(alloc: Global, bytes: &[u8], table: usize, count: usize) -> Result<Segments, ElfRefusal>
+fn segments(alloc: Global, bytes: &[u8], table: usize, count: usize) -> Result<Items<Segment>, ElfRefusal>
     requires few { count ≤ 64 }
     requires inside { 0 < count → table + 32 * count ≤ length bytes.now }
     requires good { first_fault (length bytes.now) (headers_from table count bytes.now) ≡ None }
     ensures { Makes result (segments_of bytes.now (headers_from table count bytes.now)) }
 {
-    let mut segments = Vec::new(alloc);
+    let mut segments = Items::empty(alloc);
     for index in 0..count {
         let header = header_of(bytes, table + PROGRAM_HEADER_SIZE * index);
         add_segment(alloc, &mut segments, bytes, &header)?;
     }
-    Ok(Segments::new(segments))
+    Ok(segments)
 }
 
 // The segment of a header joins those before, where there is one.
 #[tactic(auto, unfolding(crate::specs::File::segment_of, crate::specs::File::fault_in))]
 fn add_segment(
     alloc: Global,
-    segments: &mut Vec<Segment>,
+    segments: &mut Items<Segment>,
     bytes: &[u8],
     header: &ProgramHeader,
 ) -> Result<(), ElfRefusal>
     requires { fault_in (length bytes.now) header.now ≡ None }
-    ensures { Adds segments.old.items segments.new.items result (segment_of bytes.now header.now) }
+    ensures { Adds segments.old segments.new result (segment_of bytes.now header.now) }
 {
     if header.p_type != PT_LOAD || header.p_memsz < 1 {
         return Ok(());
@@ -75,7 +74,7 @@ fn add_segment(
     let start = header.p_offset as usize;
     let end = start + header.p_filesz as usize;
     let content = match Vec::from_slice(alloc, &bytes[start..end]) {
-        Ok(content) => Content::new(content),
+        Ok(content) => Items::new(content),
         Err(_) => return Err(ElfRefusal::NoMemory),
     };
     let segment = Segment {

@@ -4,7 +4,8 @@ ghost use Rattle.outside_io.specs.Memory.{content_of, file_of, is_named, same_by
 ghost use Rattle.outside_io.specs.Causes.{Rose};
 ghost use Rattle.outside_io.specs.Store.{Fetches};
 
-use crate::{Content, Fetched, LastName, Store, StoreFault};
+use crate::{Fetched, LastName, Store, StoreFault};
+use item_list::Items;
 use std::alloc::Global;
 
 /// A store over pairs of a name and bytes, for tests: it fails at the fetches that it was told, and at names that it
@@ -122,7 +123,7 @@ fn give(alloc: Global, bytes: &[u8], limit: u32) -> Result<Fetched, StoreFault>
         return Ok(Fetched::Larger);
     }
     match bytes.to_vec(alloc) {
-        Ok(copy) => Ok(Fetched::Bytes(Content::new(copy))),
+        Ok(copy) => Ok(Fetched::Bytes(Items::new(copy))),
         Err(_) => Err(StoreFault::NoMemory),
     }
 }

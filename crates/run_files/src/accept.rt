@@ -47,7 +47,7 @@ fn alone(name: &[u8], system: System) -> Result<System, Refusal>
     ensures exact { Accepts result (about name.now (without_modules system)) }
     ensures blame { BlamesBytes result }
 {
-    if system.modules.as_slice().is_empty() {
+    if system.modules.is_empty() {
         Ok(system)
     } else {
         Err(refused(Cause::Field, name))

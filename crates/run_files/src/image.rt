@@ -31,6 +31,6 @@ fn place_on_guest(alloc: Global, bytes: &mut [u8], image: &Image) -> Result<u32,
     ensures { Places bytes.old image.now bytes.new result }
 {
     let mut side = Side::new(0, bytes);
-    let mut taken = Spans::new(Vec::new(alloc));
+    let mut taken = Spans::empty(alloc);
     place(image, &mut side, &mut taken)
 }
