@@ -1,8 +1,8 @@
 // Reading a file.
 ghost use Rattle.std.specs.Prelude.{◌≡◌, ◌≤◌, ◌<◌, ◌+◌, ◌*◌, length, None, IfOk, All};
-ghost use Rattle.elf_loader.specs.Place.{Fits};
-ghost use Rattle.elf_loader.specs.File.{image_of, headers_from, first_fault, segments_of, segment_of, fault_in};
-ghost use Rattle.elf_loader.specs.Answers.{Adds, Answers, Tests, Makes};
+ghost use Rattle.elf_loader.specs.Place.{FitsSize};
+ghost use Rattle.elf_loader.specs.File.{image_of, headers_from, first_fault, segments_of, segment_of, program_header_fault};
+ghost use Rattle.elf_loader.specs.Answers.{AddsSegments, ReadsImage, Tests, MakesSegments};
 
 use crate::header::{
     PROGRAM_HEADER_SIZE, PT_LOAD, ProgramHeader, check_file, check_header, entry, header_of,
@@ -15,8 +15,8 @@ use std::alloc::Global;
 /// Reads the bytes of an ELF32 file. Each part of type PT_LOAD that has a size in memory is a segment at its virtual
 /// address; other parts are ignored, but for an interpreter, which is refused.
 pub fn read_image(alloc: Global, bytes: &[u8]) -> Result<Image, ElfRefusal>
-    ensures exact { Answers result (image_of bytes.now) }
-    ensures fits { IfOk result (λ image. All Fits image.segments) }
+    ensures exact { ReadsImage result (image_of bytes.now) }
+    ensures fits { IfOk result (λ image. All FitsSize image.segments) }
 {
     check_file(bytes)?;
     let table = table_offset(bytes);
@@ -47,7 +47,7 @@ fn segments(alloc: Global, bytes: &[u8], table: usize, count: usize) -> Result<I
     requires few { count ≤ 64 }
     requires inside { 0 < count → table + 32 * count ≤ length bytes.now }
     requires good { first_fault (length bytes.now) (headers_from table count bytes.now) ≡ None }
-    ensures { Makes result (segments_of bytes.now (headers_from table count bytes.now)) }
+    ensures { MakesSegments result (segments_of bytes.now (headers_from table count bytes.now)) }
 {
     let mut segments = Items::empty(alloc);
     for index in 0..count {
@@ -58,15 +58,15 @@ fn segments(alloc: Global, bytes: &[u8], table: usize, count: usize) -> Result<I
 }
 
 // The segment of a header joins those before, where there is one.
-#[tactic(auto, unfolding(crate::specs::File::segment_of, crate::specs::File::fault_in))]
+#[tactic(auto, unfolding(crate::specs::File::segment_of, crate::specs::File::program_header_fault))]
 fn add_segment(
     alloc: Global,
     segments: &mut Items<Segment>,
     bytes: &[u8],
     header: &ProgramHeader,
 ) -> Result<(), ElfRefusal>
-    requires { fault_in (length bytes.now) header.now ≡ None }
-    ensures { Adds segments.old segments.new result (segment_of bytes.now header.now) }
+    requires { program_header_fault (length bytes.now) header.now ≡ None }
+    ensures { AddsSegments segments.old segments.new result (segment_of bytes.now header.now) }
 {
     if header.p_type != PT_LOAD || header.p_memsz < 1 {
         return Ok(());

@@ -5,9 +5,9 @@ ghost use Rattle.std.specs.List.{list_all};
 ghost use Rattle.std.specs.BTreeMap.{keys};
 ghost use Rattle.toml.specs.Data.{array, integer, string, get_member};
 ghost use Rattle.toml.specs.View.{view, table_view, items_view};
-ghost use Rattle.system_file.specs.Answers.{Gives, Answers};
+ghost use Rattle.system_file.specs.Answers.{Gives, ReadsSystem};
 ghost use Rattle.system_file.specs.Fields.{version_of, name_of, names_in, names_of, size_of, is_field, has_only_fields, system_of, required, optional};
-ghost use Rattle.system_file.specs.Read.{read_of};
+ghost use Rattle.system_file.specs.Read.{system_of_file};
 
 use crate::name::Name;
 use crate::system::{System, SystemRefusal};
@@ -29,7 +29,7 @@ const MOST_MODULES: usize = 16;
 
 /// Reads the bytes of a system file.
 pub fn read_system(alloc: Global, bytes: &[u8]) -> Result<System, SystemRefusal>
-    ensures { Answers result (read_of bytes.now) }
+    ensures { ReadsSystem result (system_of_file bytes.now) }
 {
     match toml::table_from_slice(alloc, bytes) {
         Ok(table) => system(alloc, &table),
