@@ -1,7 +1,8 @@
 -- What the words behind `run` ask for.
 use Rattle.std.specs.Prelude.{◌≡◌, true, false, ◌&&◌, ℕ, List, codes, if◌then◌else◌, Option, Some, None, option_map, option_and_then, Result, Ok, Err}
 use Rattle.clap.specs.Words.{Row, first_of}
-use Rattle.command_words.specs.Values.{is_name, is_number}
+use Rattle.outside_io.specs.Names.{is_name}
+use Rattle.command_words.specs.Values.{is_number}
 use Rattle.command_words.specs.Command.{is_taken, rows_read}
 use Rattle.command_words.specs.declared.run.RunWords.{RunWords}
 use Rattle.command_words.specs.declared.run.WordsRefusal.{WordsRefusal}
@@ -30,13 +31,13 @@ asked_by words = record { system = words.system.now; ticks = words.ticks.now }
 
 -- the values of words that the command takes, before they are checked; Usage exactly where it takes none, unless memory is
 -- refused
-abbrev pub Reads : List (List ℕ) → Result RunWords WordsRefusal → Type 0
-Reads words (Ok read) = (is_taken words ≡ true) × (asked_in (rows_read words) ≡ Some (asked_by read))
-Reads words (Err Usage) = is_taken words ≡ false
-Reads words (Err NoMemory) = Unit {0}
+abbrev pub ReadsValues : List (List ℕ) → Result RunWords WordsRefusal → Type 0
+ReadsValues words (Ok read) = (is_taken words ≡ true) × (asked_in (rows_read words) ≡ Some (asked_by read))
+ReadsValues words (Err Usage) = is_taken words ≡ false
+ReadsValues words (Err NoMemory) = Unit {0}
 
 -- a reader answers what the words ask for, and Usage exactly where they ask for nothing, unless memory is refused
-abbrev pub Answers : Result RunWords WordsRefusal → Option AskedRun → Type 0
-Answers (Ok read) asked = asked ≡ Some (asked_by read)
-Answers (Err Usage) asked = asked ≡ None
-Answers (Err NoMemory) asked = Unit {0}
+abbrev pub ReadsRunWords : Result RunWords WordsRefusal → Option AskedRun → Type 0
+ReadsRunWords (Ok read) asked = asked ≡ Some (asked_by read)
+ReadsRunWords (Err Usage) asked = asked ≡ None
+ReadsRunWords (Err NoMemory) asked = Unit {0}

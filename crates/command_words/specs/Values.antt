@@ -1,13 +1,9 @@
--- The names and the numbers among the words.
+-- The numbers among the words.
 use Rattle.std.specs.Prelude.{ℕ, List, length, Bool, ◌&&◌, nat_le, if◌then◌else◌, Option, Some, None}
 use Rattle.std.specs.Option.{option_and_then}
 use Rattle.std.specs.List.{list_all}
 use Rattle.std.specs.Char.{is_ascii_digit}
 use Rattle.line_text.specs.Numbers.{decimal_in}
-
--- a name has 1 to 255 bytes
-abbrev pub is_name : List ℕ → Bool
-is_name text = nat_le 1 (length text) && nat_le (length text) 255
 
 -- 1 to 20 decimal digits
 abbrev pub is_number : List ℕ → Bool

@@ -1,8 +1,9 @@
 // The words behind `run`.
 ghost use Rattle.std.specs.Prelude.{map, string_bytes, IfOk, IsTrue};
 ghost use Rattle.command_words.specs.Parse.{Parses};
-ghost use Rattle.command_words.specs.Values.{is_name as name_test, is_number as number_test};
-ghost use Rattle.command_words.specs.Run.{run_words_of, Answers, Reads};
+ghost use Rattle.outside_io.specs.Names.{is_name as name_test};
+ghost use Rattle.command_words.specs.Values.{is_number as number_test};
+ghost use Rattle.command_words.specs.Run.{run_words_of, ReadsRunWords, ReadsValues};
 
 use crate::command::run_command;
 use crate::values::{is_name, is_number};
@@ -33,7 +34,7 @@ pub enum WordsRefusal {
 /// name of 1 to 255 bytes, and N is 1 to 20 decimal digits.
 #[tactic(auto, unfolding(crate::specs::Run::run_words_of))]
 pub fn read_run_words<'a>(alloc: Global, words: &'a [String]) -> Result<RunWords<'a>, WordsRefusal>
-    ensures exact { Answers result (run_words_of (map string_bytes words.entry.now)) }
+    ensures exact { ReadsRunWords result (run_words_of (map string_bytes words.entry.now)) }
     ensures name { IfOk result (λ run. IsTrue (name_test run.system.now)) }
     ensures number { IfOk result (λ run. IsTrue (number_test run.ticks.now)) }
 {
@@ -47,7 +48,7 @@ pub fn read_run_words<'a>(alloc: Global, words: &'a [String]) -> Result<RunWords
 
 // The values of the words, where the command takes them.
 fn taken_words<'a>(alloc: Global, words: &'a [String]) -> Result<RunWords<'a>, WordsRefusal>
-    ensures { Reads (map string_bytes words.entry.now) result }
+    ensures { ReadsValues (map string_bytes words.entry.now) result }
 {
     let matches = parse(alloc, words)?;
     let system = match matches.get_str("system") {

@@ -1,11 +1,10 @@
 // The names and the numbers among the words.
 ghost use Rattle.std.specs.Prelude.{◌≡◌};
-ghost use Rattle.command_words.specs.Values.{is_name as name_test, is_number as number_test, ticks_of};
+ghost use Rattle.outside_io.specs.Names.{is_name as name_test};
+ghost use Rattle.command_words.specs.Values.{is_number as number_test, ticks_of};
 
 use line_text::{are_digits, read_decimal};
-
-/// The longest name, in bytes.
-const NAME_SIZE: usize = 255;
+use outside_io::NAME_LIMIT;
 
 /// The longest number, in digits.
 const NUMBER_SIZE: usize = 20;
@@ -17,7 +16,7 @@ const TICK_LIMIT: u64 = 1_000_000_000;
 pub fn is_name(text: &[u8]) -> bool
     ensures { result ≡ name_test text.now }
 {
-    1 <= text.len() && text.len() <= NAME_SIZE
+    1 <= text.len() && text.len() <= NAME_LIMIT
 }
 
 /// Whether a word is a number: 1 to 20 decimal digits.

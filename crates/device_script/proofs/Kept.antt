@@ -11,13 +11,13 @@ use Rattle.std.proofs.lemmas.List.Sums.{sum_by_push}
 use Rattle.line_text.specs.Cut.{is_space}
 use Rattle.device_script.specs.declared.event.Event.{Event}
 use Rattle.device_script.specs.declared.event.Event.TheVariants.{Line, Com1, Com2}
-use Rattle.device_script.specs.Line.{is_skipped, tick_of, tick_in, line_of, byte_of, event_in, behind_tick, event_of}
+use Rattle.device_script.specs.Line.{is_skipped, tick_of, tick_in, interrupt_line_of, hex_byte_of, event_in, behind_tick, event_of}
 use Rattle.device_script.specs.Event.{Events, none_later, count_at, follows}
-use Rattle.device_script.specs.Event.{IsScript, is_event, is_line, is_device_event, rises}
+use Rattle.device_script.specs.Event.{IsScript, is_event, is_line, is_device_event, ticks_rise}
 use Rattle.std.specs.Prelude.{IfOk}
 use Rattle.device_script.specs.declared.script.Script.{Script}
 use Rattle.device_script.specs.declared.script.ScriptRefusal.{ScriptRefusal}
-use Rattle.device_script.specs.Script.{Answers, added, after_line, events_from, script_of, ◌>>=◌}
+use Rattle.device_script.specs.Script.{ReadsScript, added, events_with_line, events_from, script_of, ◌>>=◌}
 
 some_tick : (n t : ℕ) → tick_in n ≡ Some t → nat_le 1 t && nat_le t 1000000000 ≡ true
 some_tick n t h = grind (arith, nat_tests)
@@ -26,7 +26,7 @@ tick_good : (text : List ℕ) (t : ℕ) → tick_of text ≡ Some t → nat_le 1
 unfolding tick_of
 tick_good text t h = grind (arith, nat_tests, some_tick)
 
-line_good : (text : List ℕ) (n : ℕ) → line_of text ≡ Some n → is_line n ≡ true
+line_good : (text : List ℕ) (n : ℕ) → interrupt_line_of text ≡ Some n → is_line n ≡ true
 line_good [] n h = absurd cc
 line_good (d ∷ []) n h = grind (arith, nat_tests)
 line_good (t ∷ d ∷ []) n h = grind (arith, nat_tests)
@@ -40,11 +40,11 @@ event_good : (kind value : List ℕ) (e : Event) → event_in kind value ≡ Som
 unfolding event_in
 event_good kind value e h = go (bytes_eq kind (codes "line")) (bytes_eq kind (codes "com1")) (bytes_eq kind (codes "com2")) h
   where
-    go : (a b c : Bool) → (if a then option_map Line (line_of value) else if b then option_map Com1 (byte_of value) else if c then option_map Com2 (byte_of value) else None) ≡ Some e
+    go : (a b c : Bool) → (if a then option_map Line (interrupt_line_of value) else if b then option_map Com1 (hex_byte_of value) else if c then option_map Com2 (hex_byte_of value) else None) ≡ Some e
         → is_device_event e ≡ true
-    go true b c h' = mapped Line (line_of value) e (λ n same. line_good value n same) h'
-    go false true c h' = mapped Com1 (byte_of value) e (λ n same. refl) h'
-    go false false true h' = mapped Com2 (byte_of value) e (λ n same. refl) h'
+    go true b c h' = mapped Line (interrupt_line_of value) e (λ n same. line_good value n same) h'
+    go false true c h' = mapped Com1 (hex_byte_of value) e (λ n same. refl) h'
+    go false false true h' = mapped Com2 (hex_byte_of value) e (λ n same. refl) h'
     go false false false h' = absurd cc
 
 both : (t : Option ℕ) (v : Option Event) (e : ℕ × Event) → ((n : ℕ) → t ≡ Some n → nat_le 1 n && nat_le n 1000000000 ≡ true)
@@ -59,7 +59,7 @@ line_event : (line : List ℕ) (e : ℕ × Event) → event_of line ≡ Some e �
 unfolding event_of behind_tick
 line_event line e h = both _ _ e (λ n same. tick_good (before_first is_space line) n same) (λ x same. event_good _ _ x same) h
 
-rises-push : (from : ℕ) (es : Events) (e : ℕ × Event) → from ≤ e.0 → rises from es ≡ true → none_later e.0 es ≡ true → rises from (es ++ e ∷ []) ≡ true
+rises-push : (from : ℕ) (es : Events) (e : ℕ × Event) → from ≤ e.0 → ticks_rise from es ≡ true → none_later e.0 es ≡ true → ticks_rise from (es ++ e ∷ []) ≡ true
 rises-push from [] e le r n = grind (arith, nat_tests)
 rises-push from (d ∷ es) e le r n =
     let ih = rises-push d.0 es e in
@@ -93,7 +93,7 @@ kept-push es e k good f =
       few = λ tick. few-push es e tick (k.few tick) parts.1;
     }
 
-kept : (es : Events) (n : ℕ) (line : List ℕ) (after : Events) → IsScript es → after_line es n line ≡ Ok after → IsScript after
+kept : (es : Events) (n : ℕ) (line : List ℕ) (after : Events) → IsScript es → events_with_line es n line ≡ Ok after → IsScript after
 kept es n line after k h = go (is_skipped line) (event_of line) (λ e same. line_event line e same) h
   where
     go : (s : Bool) (o : Option (ℕ × Event)) → ((e : ℕ × Event) → o ≡ Some e → is_event e ≡ true) → (if s then Ok es else added es n o) ≡ Ok after → IsScript after
@@ -113,7 +113,7 @@ bound (Err n) f after h = absurd cc
 all_kept : (es : Events) (n : ℕ) (ls : List (List ℕ)) (after : Events) → IsScript es → events_from es n ls ≡ Ok after → IsScript after
 all_kept es n [] after k h = let same : es ≡ after = cc in rw (← same) k
 all_kept es n (line ∷ rest) after k h =
-    let b = bound (after_line es n line) (λ more. events_from more (suc n) rest) after h in
+    let b = bound (events_with_line es n line) (λ more. events_from more (suc n) rest) after h in
     all_kept b.0 (suc n) rest after (kept es n line b.0 k b.1) b.2
 
 -- a script that is read keeps the rules
@@ -121,6 +121,6 @@ pub script_keeps : (bytes : List ℕ) (events : Events) → script_of bytes ≡ 
 unfolding script_of
 script_keeps bytes events h = all_kept [] 1 (lines bytes) events first h
 
-pub answer_keeps : (bytes : List ℕ) (r : Result Script ScriptRefusal) → Answers r (script_of bytes) → IfOk r (λ script. IsScript script.events)
+pub answer_keeps : (bytes : List ℕ) (r : Result Script ScriptRefusal) → ReadsScript r (script_of bytes) → IfOk r (λ script. IsScript script.events)
 answer_keeps bytes (Ok script) h = script_keeps bytes script.events h
 answer_keeps bytes (Err e) h = tt

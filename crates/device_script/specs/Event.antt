@@ -35,12 +35,12 @@ abbrev pub follows : Events → ℕ → Bool
 follows before tick = none_later tick before && nat_lt (count_at tick before) 16
 
 -- the ticks never fall, from this one on
-abbrev pub rises : ℕ → Events → Bool
-rises from [] = true
-rises from (e ∷ es) = nat_le from e.0 && rises e.0 es
+abbrev pub ticks_rise : ℕ → Events → Bool
+ticks_rise from [] = true
+ticks_rise from (e ∷ es) = nat_le from e.0 && ticks_rise e.0 es
 
 -- what the events of every script keep
 pub record IsScript (events : Events) : Type 0 where
   pub good : IsTrue (list_all is_event events)
-  pub order : IsTrue (rises 0 events)
+  pub order : IsTrue (ticks_rise 0 events)
   pub few : (tick : ℕ) → count_at tick events ≤ 16

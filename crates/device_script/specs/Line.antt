@@ -33,20 +33,20 @@ unfoldable pub tick_of : List ℕ → Option ℕ
 tick_of text = if (nat_le 1 (length text) && nat_le (length text) 10) && list_all is_ascii_digit text then tick_in (decimal 0 text) else None
 
 -- N: 1, 5 to 9, or 10 to 15, without a leading zero
-abbrev pub line_of : List ℕ → Option ℕ
-line_of (d ∷ []) = if d == 49 then Some 1 else if nat_le 53 d && nat_le d 57 then Some (d - 48) else None
-line_of (t ∷ d ∷ []) = if t == 49 && (nat_le 48 d && nat_le d 53) then Some (d - 48 + 10) else None
-line_of _ = None
+abbrev pub interrupt_line_of : List ℕ → Option ℕ
+interrupt_line_of (d ∷ []) = if d == 49 then Some 1 else if nat_le 53 d && nat_le d 57 then Some (d - 48) else None
+interrupt_line_of (t ∷ d ∷ []) = if t == 49 && (nat_le 48 d && nat_le d 53) then Some (d - 48 + 10) else None
+interrupt_line_of _ = None
 
 -- HH: two hex digits of either case
-abbrev pub byte_of : List ℕ → Option ℕ
-byte_of text = hex_in 2 text
+abbrev pub hex_byte_of : List ℕ → Option ℕ
+hex_byte_of text = hex_in 2 text
 
 -- the second and the third part
 unfoldable pub event_in : List ℕ → List ℕ → Option Event
-event_in kind value = if bytes_eq kind (codes "line") then option_map Line (line_of value)
-    else if bytes_eq kind (codes "com1") then option_map Com1 (byte_of value)
-    else if bytes_eq kind (codes "com2") then option_map Com2 (byte_of value) else None
+event_in kind value = if bytes_eq kind (codes "line") then option_map Line (interrupt_line_of value)
+    else if bytes_eq kind (codes "com1") then option_map Com1 (hex_byte_of value)
+    else if bytes_eq kind (codes "com2") then option_map Com2 (hex_byte_of value) else None
 
 -- what stands behind the first space
 unfoldable pub behind_tick : List ℕ → Option Event

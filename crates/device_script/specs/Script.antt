@@ -13,8 +13,8 @@ abbrev pub added : Events → ℕ → Option (ℕ × Event) → Result Events �
 added before n None = Err n
 added before n (Some e) = if follows before e.0 then Ok (before ++ e ∷ []) else Err n
 
-abbrev pub after_line : Events → ℕ → List ℕ → Result Events ℕ
-after_line before n line = if is_skipped line then Ok before else added before n (event_of line)
+abbrev pub events_with_line : Events → ℕ → List ℕ → Result Events ℕ
+events_with_line before n line = if is_skipped line then Ok before else added before n (event_of line)
 
 infixl 10 ◌>>=◌
 abbrev pub ◌>>=◌ : Result Events ℕ → (Events → Result Events ℕ) → Result Events ℕ
@@ -24,17 +24,17 @@ abbrev pub ◌>>=◌ : Result Events ℕ → (Events → Result Events ℕ) → 
 -- the events of the lines from number n on, behind those of the lines before
 abbrev pub events_from : Events → ℕ → List (List ℕ) → Result Events ℕ
 events_from before n [] = Ok before
-events_from before n (line ∷ rest) = after_line before n line >>= (λ more. events_from more (suc n) rest)
+events_from before n (line ∷ rest) = events_with_line before n line >>= (λ more. events_from more (suc n) rest)
 
 -- lines end with LF, and a CR before it is dropped; a last line may have no LF, and then a CR is part of it
 unfoldable pub script_of : List ℕ → Result Events ℕ
 script_of bytes = events_from [] 1 (lines bytes)
 
 -- what a reader answers: this, unless memory is refused
-abbrev pub Answers : Result Script ScriptRefusal → Result Events ℕ → Type 0
-Answers (Ok script) said = said ≡ Ok script.events
-Answers (Err (BadLine n)) said = said ≡ Err n
-Answers (Err NoMemory) said = Unit {0}
+abbrev pub ReadsScript : Result Script ScriptRefusal → Result Events ℕ → Type 0
+ReadsScript (Ok script) said = said ≡ Ok script.events
+ReadsScript (Err (BadLine n)) said = said ≡ Err n
+ReadsScript (Err NoMemory) said = Unit {0}
 
 -- what the step of a line answers, and the events that it leaves
 abbrev pub Took : Events → Events → Result (Unit {0}) ScriptRefusal → Result Events ℕ → Type 0

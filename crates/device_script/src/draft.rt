@@ -4,8 +4,9 @@ ghost use Rattle.std.specs.Prelude.{◌≡◌, ◌++◌, ◌∷◌, [], OnOk, tr
 ghost use Rattle.device_script.specs.Event.{follows};
 ghost use Rattle.device_script.specs.Draft.{counted_follows, kept_of};
 
-use crate::event::{Event, Events};
+use crate::event::Event;
 use crate::script::Script;
+use item_list::Items;
 use std::alloc::{AllocError, Global};
 use std::marker::Model;
 
@@ -15,7 +16,7 @@ const MOST_AT_ONCE: u32 = 16;
 /// The events so far. Contracts see their list.
 #[derive(Drop)]
 pub struct Draft {
-    events: Vec<(u32, Event)>,
+    events: Items<(u32, Event)>,
     // the tick of the last event, and how many events have it
     last: u32,
     same: u32,
@@ -28,9 +29,9 @@ impl Model for Draft {
 
     ghost Value = { List (ℕ × Event) };
 
-    ghost view = { λ s. s.events.items };
+    ghost view = { λ s. s.events };
 
-    ghost invariant = { λ s. IsCounted s.events.items s.last s.same };
+    ghost invariant = { λ s. IsCounted s.events s.last s.same };
 }
 
 impl Draft {
@@ -39,7 +40,7 @@ impl Draft {
         ensures { result ≡ [] }
     {
         Draft {
-            events: Vec::new(alloc),
+            events: Items::empty(alloc),
             last: 0,
             same: 0,
         }
@@ -69,7 +70,7 @@ impl Draft {
         ensures { result.events ≡ self }
     {
         Script {
-            events: Events::new(self.events),
+            events: self.events,
         }
     }
 }

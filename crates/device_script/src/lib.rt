@@ -9,6 +9,6 @@ mod line;
 mod read;
 mod script;
 
-pub use event::{Event, Events};
+pub use event::Event;
 pub use read::read_script;
 pub use script::{Script, ScriptRefusal};

@@ -1,6 +1,6 @@
 // One line of a script.
 ghost use Rattle.std.specs.Prelude.{◌≡◌};
-ghost use Rattle.device_script.specs.Line.{event_of, behind_tick, event_in, tick_of, tick_in, line_of, byte_of, decimal, is_skipped as skipped_test};
+ghost use Rattle.device_script.specs.Line.{event_of, behind_tick, event_in, tick_of, tick_in, interrupt_line_of, hex_byte_of, decimal, is_skipped as skipped_test};
 
 use crate::cut::skip;
 use crate::event::Event;
@@ -85,7 +85,7 @@ fn value_within(text: &[u8]) -> Option<u32>
 }
 
 fn line(text: &[u8]) -> Option<u8>
-    ensures { result ≡ line_of text.now }
+    ensures { result ≡ interrupt_line_of text.now }
 {
     match text {
         [b'1'] => Some(1),
@@ -96,7 +96,7 @@ fn line(text: &[u8]) -> Option<u8>
 }
 
 fn byte(text: &[u8]) -> Option<u8>
-    ensures { result ≡ byte_of text.now }
+    ensures { result ≡ hex_byte_of text.now }
 {
     Some(read_hex(text, 2)? as u8)
 }

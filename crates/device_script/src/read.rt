@@ -2,7 +2,7 @@
 
 ghost use Rattle.std.specs.Prelude.{◌≤◌, length, IfOk};
 ghost use Rattle.device_script.specs.Event.{IsScript};
-ghost use Rattle.device_script.specs.Script.{script_of, after_line, Answers, Took};
+ghost use Rattle.device_script.specs.Script.{script_of, events_with_line, ReadsScript, Took};
 
 use crate::cut::first_line;
 use crate::draft::Draft;
@@ -14,7 +14,7 @@ use std::alloc::Global;
 #[tactic(auto, using(crate::proofs::Kept::answer_keeps))]
 pub fn read_script(alloc: Global, bytes: &[u8]) -> Result<Script, ScriptRefusal>
     requires { length bytes.now ≤ 33554432 }
-    ensures exact { Answers result (script_of bytes.now) }
+    ensures exact { ReadsScript result (script_of bytes.now) }
     ensures rules { IfOk result (λ script. IsScript script.events) }
 {
     read_lines(alloc, bytes)
@@ -22,7 +22,7 @@ pub fn read_script(alloc: Global, bytes: &[u8]) -> Result<Script, ScriptRefusal>
 
 fn read_lines(alloc: Global, bytes: &[u8]) -> Result<Script, ScriptRefusal>
     requires { length bytes.now ≤ 33554432 }
-    ensures { Answers result (script_of bytes.now) }
+    ensures { ReadsScript result (script_of bytes.now) }
 {
     let mut draft = Draft::new(alloc);
     let mut left = bytes;
@@ -38,7 +38,7 @@ fn read_lines(alloc: Global, bytes: &[u8]) -> Result<Script, ScriptRefusal>
 
 // The event of a line joins those of the lines before.
 fn take_line(draft: &mut Draft, number: u32, line: &[u8]) -> Result<(), ScriptRefusal>
-    ensures { Took draft.old draft.new result (after_line draft.old number line.now) }
+    ensures { Took draft.old draft.new result (events_with_line draft.old number line.now) }
 {
     if is_skipped(line) {
         return Ok(());

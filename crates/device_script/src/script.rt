@@ -1,12 +1,13 @@
 // What a script holds, and why one isn't taken.
 
-use crate::event::Events;
+use crate::event::Event;
+use item_list::Items;
 
 /// The events of a script.
 #[derive(Drop)]
 pub struct Script {
     /// Each event with its tick, from 1 on. Ticks never fall, and at most 16 events have one tick.
-    pub events: Events,
+    pub events: Items<(u32, Event)>,
 }
 
 /// Why a script isn't taken.

@@ -2,8 +2,9 @@
 use Rattle.std.proofs.Common.{◌≡◌, ℕ, suc, ◌+◌, ◌-◌, ◌*◌, ◌<◌, ◌≤◌, List, [], ◌∷◌, ◌++◌, length, arith, refl, Option, Some, None, Ok, Err, true}
 use Rattle.std.proofs.lemmas.Bool.Decides.{nat_tests}
 use Rattle.std.proofs.lemmas.List.{append_assoc}
-use Rattle.elf_loader.specs.File.{header_at, headers_from, headers, first_fault, fault_in, segments_of, segment_of, header_fault, has_good_table, loads, e_phoff, e_phnum, or_else, image_of, word_at}
-use Rattle.elf_loader.specs.Answers.{Answers, Tests, HasTable}
+use Rattle.std.specs.Option.{option_or}
+use Rattle.elf_loader.specs.File.{header_at, headers_from, headers, first_fault, program_header_fault, segments_of, segment_of, header_fault, has_good_table, is_loaded, e_phoff, e_phnum, image_of, file_word}
+use Rattle.elf_loader.specs.Answers.{ReadsImage, Tests, HasTable}
 use Rattle.elf_loader.specs.declared.image.ElfRefusal.{ElfRefusal}
 use Rattle.elf_loader.specs.declared.image.ElfRefusal.TheVariants.{Bad, NoMemory}
 use Rattle.elf_loader.specs.declared.header.ProgramHeader.{ProgramHeader}
@@ -12,7 +13,7 @@ use Rattle.std.proofs.Common.{take, drop, length-take, nat_lt, ◌&&◌, inl, in
 use Rattle.std.proofs.lemmas.Bool.{cases_Bool}
 use Rattle.std.specs.Prelude.{All}
 use Rattle.std.proofs.lemmas.List.Elements.{All-push, All-nil, All-append}
-use Rattle.elf_loader.specs.Place.{Fits}
+use Rattle.elf_loader.specs.Place.{FitsSize}
 use Rattle.elf_loader.specs.declared.image.Image.{Image}
 
 pub headers-step : (t n i : ℕ) (bytes : List ℕ) → i < n
@@ -23,16 +24,16 @@ headers-step t n i bytes h =
     rw (a, b) refl
 
 -- a header that is no fault, before others
-pub fault-later : (len : ℕ) (h : ProgramHeader) (hs : List ProgramHeader) → fault_in len h ≡ None → first_fault len (h ∷ hs) ≡ first_fault len hs
+pub fault-later : (len : ℕ) (h : ProgramHeader) (hs : List ProgramHeader) → program_header_fault len h ≡ None → first_fault len (h ∷ hs) ≡ first_fault len hs
 fault-later len h hs e = rw e refl
 
-either : (a b : Option ℕ) → or_else a b ≡ None → (a ≡ None) × (b ≡ None)
+either : (a b : Option ℕ) → option_or a b ≡ None → (a ≡ None) × (b ≡ None)
 either None b h = (refl, h)
 either (Some k) b h = absurd cc
 
 -- where none of some headers is bad, neither the first nor one of the others is
-pub none-bad : (len : ℕ) (h : ProgramHeader) (hs : List ProgramHeader) → first_fault len (h ∷ hs) ≡ None → (fault_in len h ≡ None) × (first_fault len hs ≡ None)
-none-bad len h hs e = either (fault_in len h) (first_fault len hs) e
+pub none-bad : (len : ℕ) (h : ProgramHeader) (hs : List ProgramHeader) → first_fault len (h ∷ hs) ≡ None → (program_header_fault len h ≡ None) × (first_fault len hs ≡ None)
+none-bad len h hs e = either (program_header_fault len h) (first_fault len hs) e
 
 -- the segments so far, with those of the next header
 pub segments-more : (bytes : List ℕ) (so_far : List Segment) (h : ProgramHeader) (hs : List ProgramHeader)
@@ -60,37 +61,37 @@ bad_header bytes k e f = rw (e, f) refl
 pub good_file : (bytes : List ℕ) (segments : List Segment) → header_fault bytes ≡ None
     → first_fault (length bytes) (headers_from (e_phoff bytes) (e_phnum bytes) bytes) ≡ None
     → segments ≡ segments_of bytes (headers_from (e_phoff bytes) (e_phnum bytes) bytes)
-    → image_of bytes ≡ Ok (record { entry = word_at 24 bytes; segments = segments })
+    → image_of bytes ≡ Ok (record { entry = file_word 24 bytes; segments = segments })
 unfolding image_of headers
 good_file bytes segments e f s = rw (e, f, s) refl
 
 -- the exits of the reader
-pub file_exit : (bytes : List ℕ) (e : ElfRefusal) → Tests (Err e) (header_fault bytes) → Answers {A = Image} (Err e) (image_of bytes)
+pub file_exit : (bytes : List ℕ) (e : ElfRefusal) → Tests (Err e) (header_fault bytes) → ReadsImage (Err e) (image_of bytes)
 file_exit bytes (Bad k) h = bad_file bytes k h
 file_exit bytes NoMemory h = tt
 
 pub header_exit : (bytes : List ℕ) (e : ElfRefusal) → header_fault bytes ≡ None
-    → Tests (Err e) (first_fault (length bytes) (headers_from (e_phoff bytes) (e_phnum bytes) bytes)) → Answers {A = Image} (Err e) (image_of bytes)
+    → Tests (Err e) (first_fault (length bytes) (headers_from (e_phoff bytes) (e_phnum bytes) bytes)) → ReadsImage (Err e) (image_of bytes)
 header_exit bytes (Bad k) h f = bad_header bytes k h f
 header_exit bytes NoMemory h f = tt
 
 -- what is loaded has no more bytes than its size
-one_fits : (bytes : List ℕ) (h : ProgramHeader) → fault_in (length bytes) h ≡ None → All Fits (segment_of bytes h)
-unfolding fault_in segment_of
-one_fits bytes h e = elim (cases_Bool (loads h && nat_lt 0 h.p_memsz)) [
+one_fits : (bytes : List ℕ) (h : ProgramHeader) → program_header_fault (length bytes) h ≡ None → All FitsSize (segment_of bytes h)
+unfolding program_header_fault segment_of
+one_fits bytes h e = elim (cases_Bool (is_loaded h && nat_lt 0 h.p_memsz)) [
   | inl loaded ↦
       let short : h.p_filesz ≤ h.p_memsz = grind (arith, nat_tests) in
-      let fits : Fits (record { place = h.p_vaddr; size = h.p_memsz; bytes = take h.p_filesz (drop h.p_offset bytes) }) = omega (arith, length-take h.p_filesz (drop h.p_offset bytes)) in
-      rw loaded (All-push Fits [] _ (All-nil Fits) fits)
-  | inr not_loaded ↦ rw not_loaded (All-nil Fits)
+      let fits : FitsSize (record { place = h.p_vaddr; size = h.p_memsz; bytes = take h.p_filesz (drop h.p_offset bytes) }) = omega (arith, length-take h.p_filesz (drop h.p_offset bytes)) in
+      rw loaded (All-push FitsSize [] _ (All-nil FitsSize) fits)
+  | inr not_loaded ↦ rw not_loaded (All-nil FitsSize)
 ]
 
-all_fit : (bytes : List ℕ) (hs : List ProgramHeader) → first_fault (length bytes) hs ≡ None → All Fits (segments_of bytes hs)
-all_fit bytes [] e = All-nil Fits
+all_fit : (bytes : List ℕ) (hs : List ProgramHeader) → first_fault (length bytes) hs ≡ None → All FitsSize (segments_of bytes hs)
+all_fit bytes [] e = All-nil FitsSize
 all_fit bytes (h ∷ hs) e =
     let parts = none-bad (length bytes) h hs e in
-    All-append Fits (segment_of bytes h) (segments_of bytes hs) (one_fits bytes h parts.0) (all_fit bytes hs parts.1)
+    All-append FitsSize (segment_of bytes h) (segments_of bytes hs) (one_fits bytes h parts.0) (all_fit bytes hs parts.1)
 
 pub read_fits : (bytes : List ℕ) (segments : List Segment) → first_fault (length bytes) (headers_from (e_phoff bytes) (e_phnum bytes) bytes) ≡ None
-    → segments ≡ segments_of bytes (headers_from (e_phoff bytes) (e_phnum bytes) bytes) → All Fits segments
+    → segments ≡ segments_of bytes (headers_from (e_phoff bytes) (e_phnum bytes) bytes) → All FitsSize segments
 read_fits bytes segments f s = rw s (all_fit bytes _ f)

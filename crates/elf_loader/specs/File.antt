@@ -1,39 +1,40 @@
 -- An ELF32 file for the i386: its file header, its program headers, and the image that it holds (ELF specification 1.2, "ELF Header" and "Program Header"; i386 supplement).
 use Rattle.std.specs.Prelude.{ℕ, zero, suc, ◌+◌, ◌*◌, ◌==◌, ◌&&◌, ◌||◌, Bool, not, List, [], ◌∷◌, length, take, drop, ◌++◌, slice_index, nat_lt, nat_le, if◌then◌else◌, Option, Some, None, Result, Ok, Err}
+use Rattle.std.specs.Option.{option_or}
 use Rattle.byteorder.specs.Endian.{little_number}
 use Rattle.elf_loader.specs.declared.header.ProgramHeader.{ProgramHeader}
 use Rattle.elf_loader.specs.declared.image.Image.{Image}
 use Rattle.elf_loader.specs.declared.image.Segment.{Segment}
 
 -- Elf32_Word, Elf32_Addr and Elf32_Off have four bytes, Elf32_Half two, the lowest first
-unfoldable pub word_at : ℕ → List ℕ → ℕ
-word_at at bytes = little_number 4 (drop at bytes)
+unfoldable pub file_word : ℕ → List ℕ → ℕ
+file_word at bytes = little_number 4 (drop at bytes)
 
-unfoldable pub half_at : ℕ → List ℕ → ℕ
-half_at at bytes = little_number 2 (drop at bytes)
+unfoldable pub file_half : ℕ → List ℕ → ℕ
+file_half at bytes = little_number 2 (drop at bytes)
 
 -- The file header, 52 bytes
 
 abbrev pub e_type : List ℕ → ℕ
-e_type = half_at 16
+e_type = file_half 16
 
 abbrev pub e_machine : List ℕ → ℕ
-e_machine = half_at 18
+e_machine = file_half 18
 
 abbrev pub e_version : List ℕ → ℕ
-e_version = word_at 20
+e_version = file_word 20
 
 abbrev pub e_entry : List ℕ → ℕ
-e_entry = word_at 24
+e_entry = file_word 24
 
 abbrev pub e_phoff : List ℕ → ℕ
-e_phoff = word_at 28
+e_phoff = file_word 28
 
 abbrev pub e_phentsize : List ℕ → ℕ
-e_phentsize = half_at 42
+e_phentsize = file_half 42
 
 abbrev pub e_phnum : List ℕ → ℕ
-e_phnum = half_at 44
+e_phnum = file_half 44
 
 -- EI_MAG0 to EI_MAG3: 7Fh and ELF
 unfoldable pub has_magic : List ℕ → Bool
@@ -63,11 +64,11 @@ header_fault bytes =
 
 unfoldable pub header_at : ℕ → List ℕ → ProgramHeader
 header_at at bytes = record {
-  p_type = word_at at bytes;
-  p_offset = word_at (at + 4) bytes;
-  p_vaddr = word_at (at + 8) bytes;
-  p_filesz = word_at (at + 16) bytes;
-  p_memsz = word_at (at + 20) bytes;
+  p_type = file_word at bytes;
+  p_offset = file_word (at + 4) bytes;
+  p_vaddr = file_word (at + 8) bytes;
+  p_filesz = file_word (at + 16) bytes;
+  p_memsz = file_word (at + 20) bytes;
 }
 
 abbrev pub headers_from : ℕ → ℕ → List ℕ → List ProgramHeader
@@ -78,31 +79,27 @@ unfoldable pub headers : List ℕ → List ProgramHeader
 headers bytes = headers_from (e_phoff bytes) (e_phnum bytes) bytes
 
 -- PT_LOAD is 1, PT_INTERP is 3
-abbrev pub loads : ProgramHeader → Bool
-loads h = h.p_type == 1
+abbrev pub is_loaded : ProgramHeader → Bool
+is_loaded h = h.p_type == 1
 
 -- the rules 7 to 9, in a file of so many bytes
-unfoldable pub fault_in : ℕ → ProgramHeader → Option ℕ
-fault_in size h =
-    if loads h && nat_lt size (h.p_offset + h.p_filesz) then Some 7
-    else if loads h && nat_lt h.p_memsz h.p_filesz then Some 8
+unfoldable pub program_header_fault : ℕ → ProgramHeader → Option ℕ
+program_header_fault size h =
+    if is_loaded h && nat_lt size (h.p_offset + h.p_filesz) then Some 7
+    else if is_loaded h && nat_lt h.p_memsz h.p_filesz then Some 8
     else if h.p_type == 3 then Some 9
     else None
-
-abbrev pub or_else : Option ℕ → Option ℕ → Option ℕ
-or_else None next = next
-or_else (Some k) next = Some k
 
 -- that of the first bad header
 abbrev pub first_fault : ℕ → List ProgramHeader → Option ℕ
 first_fault size [] = None
-first_fault size (h ∷ hs) = or_else (fault_in size h) (first_fault size hs)
+first_fault size (h ∷ hs) = option_or (program_header_fault size h) (first_fault size hs)
 
 -- The image
 
 -- the segment of a header, where it loads something
 unfoldable pub segment_of : List ℕ → ProgramHeader → List Segment
-segment_of bytes h = if loads h && nat_lt 0 h.p_memsz
+segment_of bytes h = if is_loaded h && nat_lt 0 h.p_memsz
     then record { place = h.p_vaddr; size = h.p_memsz; bytes = take h.p_filesz (drop h.p_offset bytes) } ∷ [] else []
 
 abbrev pub segments_of : List ℕ → List ProgramHeader → List Segment
@@ -111,7 +108,7 @@ segments_of bytes (h ∷ hs) = segment_of bytes h ++ segments_of bytes hs
 
 -- the first rule that a file breaks
 abbrev pub fault_of : List ℕ → Option ℕ
-fault_of bytes = or_else (header_fault bytes) (first_fault (length bytes) (headers bytes))
+fault_of bytes = option_or (header_fault bytes) (first_fault (length bytes) (headers bytes))
 
 abbrev pub unless : Option ℕ → Image → Result Image ℕ
 unless None image = Ok image

@@ -23,8 +23,8 @@ abbrev pub span_of : Segment → Span
 span_of s = (s.place, s.place + s.size)
 
 -- a segment has no more bytes than its size
-abbrev pub Fits : Segment → Type 0
-Fits s = length s.bytes ≤ s.size
+abbrev pub FitsSize : Segment → Type 0
+FitsSize s = length s.bytes ≤ s.size
 
 -- every segment is wholly on the side
 unfoldable pub all_inside : Side → List Segment → Bool
@@ -49,7 +49,7 @@ with_segments side (s ∷ rest) = with_segments (with_segment side s) rest
 
 -- a segment that is wholly on a side
 pub record FitsOn (side : Side) (s : Segment) : Type 0 where
-  pub fits : Fits s
+  pub fits : FitsSize s
   pub from : 0 < s.size → side.first ≤ s.place
   pub to : 0 < s.size → s.place + s.size ≤ side.first + length side.bytes
 
@@ -72,11 +72,11 @@ Unchanged old new before after = (new ≡ old) × (after ≡ before)
 
 -- how a placing answers: its entry, with every segment stored and its range taken; Outside exactly where a segment isn't
 -- wholly on the side; Overlap exactly where all are and a range shares a byte with one before; a refusal changes nothing
-abbrev pub Placed : Image → Side → Side → List Span → List Span → Result ℕ PlaceRefusal → Type 0
-Placed image old new before after (Ok entry) =
+abbrev pub PlacesOnSide : Image → Side → Side → List Span → List Span → Result ℕ PlaceRefusal → Type 0
+PlacesOnSide image old new before after (Ok entry) =
     (all_inside old image.segments ≡ true) × (spans_with before image.segments ≡ Some after)
     × (new ≡ with_segments old image.segments) × (entry ≡ image.entry)
-Placed image old new before after (Err Outside) = (all_inside old image.segments ≡ false) × Unchanged old new before after
-Placed image old new before after (Err Overlap) =
+PlacesOnSide image old new before after (Err Outside) = (all_inside old image.segments ≡ false) × Unchanged old new before after
+PlacesOnSide image old new before after (Err Overlap) =
     (all_inside old image.segments ≡ true) × (spans_with before image.segments ≡ None) × Unchanged old new before after
-Placed image old new before after (Err NoMemory) = Unchanged old new before after
+PlacesOnSide image old new before after (Err NoMemory) = Unchanged old new before after

@@ -1,6 +1,6 @@
 // The file header and the program headers.
 ghost use Rattle.std.specs.Prelude.{◌≡◌, ◌≤◌, ◌+◌, ◌*◌, length, true, OnOk};
-ghost use Rattle.elf_loader.specs.File.{header_at, e_entry, e_phoff, e_phnum, header_fault, has_magic as magic_test, has_good_table as table_test, fault_in};
+ghost use Rattle.elf_loader.specs.File.{header_at, e_entry, e_phoff, e_phnum, header_fault, has_magic as magic_test, has_good_table as table_test, program_header_fault};
 ghost use Rattle.elf_loader.specs.Answers.{HasTable, Tests};
 
 use crate::field::{half, word};
@@ -162,9 +162,9 @@ fn has_good_table(bytes: &[u8]) -> bool
 }
 
 /// Tests a program header, in a file of this length: the rules 7 to 9.
-#[tactic(auto, unfolding(crate::specs::File::fault_in))]
+#[tactic(auto, unfolding(crate::specs::File::program_header_fault))]
 pub fn check_header(len: usize, header: &ProgramHeader) -> Result<(), ElfRefusal>
-    ensures { Tests result (fault_in len header.now) }
+    ensures { Tests result (program_header_fault len header.now) }
 {
     let end = u64::from(header.p_offset) + u64::from(header.p_filesz);
     if header.p_type == PT_LOAD && (len as u64) < end {

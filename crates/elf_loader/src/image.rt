@@ -1,7 +1,6 @@
 // What is loaded of a file, and why one isn't taken.
 
-use crate::segments::Segments;
-use outside_io::Content;
+use item_list::Items;
 
 /// A part of an image: its bytes, and zeros behind them up to its size.
 #[derive(Drop)]
@@ -11,7 +10,7 @@ pub struct Segment {
     /// How many bytes it takes in memory.
     pub size: u32,
     /// The bytes that the file has of it, at most as many as its size.
-    pub bytes: Content,
+    pub bytes: Items<u8>,
 }
 
 /// What is loaded of a file.
@@ -20,7 +19,7 @@ pub struct Image {
     /// The address of the first instruction.
     pub entry: u32,
     /// The segments, in the order of the program header table.
-    pub segments: Segments,
+    pub segments: Items<Segment>,
 }
 
 /// Why a file isn't taken.

@@ -7,11 +7,9 @@ mod header;
 mod image;
 mod placing;
 mod read;
-mod segments;
 mod spans;
 
 pub use image::{ElfRefusal, Image, Segment};
 pub use placing::{PlaceRefusal, place};
 pub use read::read_image;
-pub use segments::Segments;
 pub use spans::Spans;

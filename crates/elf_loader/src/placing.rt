@@ -3,10 +3,10 @@
 ghost use Rattle.std.specs.Prelude.{◌≡◌, ◌≤◌, ◌<◌, ◌+◌, ◌^◌, ◌++◌, length, true, replicate, All, take, drop};
 ghost use Rattle.memory_model.specs.Side.{covers};
 ghost use Rattle.flat_memory.specs.Side.{side_at, side_of};
-ghost use Rattle.elf_loader.specs.Place.{span_of, all_inside, with_segment, with_segments, Fits, FitsOn, Placed, Takes, TakesAll};
+ghost use Rattle.elf_loader.specs.Place.{span_of, all_inside, with_segment, with_segments, FitsSize, FitsOn, PlacesOnSide, Takes, TakesAll};
 
 use crate::image::{Image, Segment};
-use crate::spans::Spans;
+use crate::spans::{Spans, has_room};
 use flat_memory::{Side, fits};
 
 /// Why an image isn't placed. Nothing has changed then.
@@ -22,9 +22,9 @@ pub enum PlaceRefusal {
 
 /// Stores the segments of an image on a side, takes their ranges, and answers the image's entry.
 pub fn place(image: &Image, side: &mut Side<'_>, taken: &mut Spans) -> Result<u32, PlaceRefusal>
-    requires fits { All Fits image.now.segments }
+    requires fits { All FitsSize image.now.segments }
     requires on_side { side.old.first + length side.old.bytes.now < 2 ^ 32 }
-    ensures placed { Placed image.now (side_of side.old) (side_of side.new) taken.old taken.new result }
+    ensures placed { PlacesOnSide image.now (side_of side.old) (side_of side.new) taken.old taken.new result }
     ensures same_loan { side.new.bytes.ghost_name ≡ side.old.bytes.ghost_name }
 {
     let segments = image.segments.as_slice();
@@ -55,7 +55,7 @@ fn is_inside(side: &Side<'_>, segment: &Segment) -> bool
 fn take_one(taken: &mut Spans, span: (u32, u32)) -> Result<(), PlaceRefusal>
     ensures { Takes taken.old taken.new result span }
 {
-    if !taken.has_room(span) {
+    if !has_room(taken.as_slice(), span) {
         return Err(PlaceRefusal::Overlap);
     }
     match taken.push(span) {
@@ -92,7 +92,7 @@ fn span(segment: &Segment) -> (u32, u32)
 fn store_all(bytes: &mut [u8], first: u32, segments: &[Segment])
     requires small { first + length bytes.old < 2 ^ 32 }
     requires inside { all_inside (side_at first bytes.old) segments.now ≡ true }
-    requires fits { All Fits segments.now }
+    requires fits { All FitsSize segments.now }
     ensures { side_at first bytes.new ≡ with_segments (side_at first bytes.old) segments.now }
 {
     for segment in segments {

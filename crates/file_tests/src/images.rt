@@ -12,7 +12,7 @@ fn a_file_that_a_linker_wrote(rt: HostRuntime) {
                 (0x1_0000, 0x115, &GREETING[..0x115]),
                 (0x1_1118, 8, &GREETING[0x118..0x11C]),
             ];
-            assert_eq!(rt; image.segments.as_slice().len(), parts.len());
+            assert_eq!(rt; image.segments.len(), parts.len());
             for (segment, (place, size, bytes)) in image.segments.as_slice().iter().zip(&parts) {
                 assert_eq!(rt; segment.place, *place);
                 assert_eq!(rt; segment.size, *size);

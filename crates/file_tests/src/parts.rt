@@ -1,6 +1,6 @@
 // Small files with the entry 1234h, and the images that they give.
 ghost use Rattle.std.specs.Prelude.{IfSome, All};
-ghost use Rattle.elf_loader.specs.Place.{Fits};
+ghost use Rattle.elf_loader.specs.Place.{FitsSize};
 
 use elf_loader::{Image, read_image};
 use std::alloc::Global;
@@ -39,7 +39,7 @@ fn set_field(file: &mut [u8], at: usize, value: u32) {
 }
 
 pub fn image_in(alloc: Global, file: &[u8]) -> Option<Image>
-    ensures { IfSome result (λ image. All Fits image.segments) }
+    ensures { IfSome result (λ image. All FitsSize image.segments) }
 {
     match read_image(alloc, file) {
         Ok(image) => Some(image),
@@ -49,7 +49,7 @@ pub fn image_in(alloc: Global, file: &[u8]) -> Option<Image>
 
 /// The image of two parts with these addresses and sizes in memory, each of the two bytes and zeros.
 pub fn image_of(alloc: Global, first: (u32, u32), second: (u32, u32)) -> Option<Image>
-    ensures { IfSome result (λ image. All Fits image.segments) }
+    ensures { IfSome result (λ image. All FitsSize image.segments) }
 {
     let mut file = TWO;
     set_field(&mut file, 52 + 8, first.0);

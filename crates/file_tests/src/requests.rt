@@ -31,6 +31,6 @@ fn ample_memory_has_the_run(rt: HostRuntime) -> Result<(), Fail> {
     assert_eq!(rt; run.ticks, 13);
     assert_eq!(rt; run.shown, Shown::Both);
     assert_eq!(rt; run.sides.entry, 0x1234);
-    assert_eq!(rt; run.script.events.as_slice().len(), 1);
+    assert_eq!(rt; run.script.events.len(), 1);
     Ok(())
 }

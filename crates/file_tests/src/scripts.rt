@@ -73,6 +73,6 @@ fn thousands_of_events_are_taken(rt: HostRuntime) -> Result<(), Fail> {
         return Err("too long a text".into());
     }
     let script = read_script(alloc, bytes).ok().ok_or("no script")?;
-    assert_eq!(rt; script.events.as_slice().len(), 3_000);
+    assert_eq!(rt; script.events.len(), 3_000);
     Ok(())
 }

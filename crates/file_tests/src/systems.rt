@@ -12,7 +12,7 @@ fn what_a_file_holds(rt: HostRuntime) -> Result<(), Fail> {
     assert_eq!(rt; system.guest_memory, 131_072);
     assert_eq!(rt; system.real_time_memory, 65_536);
     let names = ["m.elf", "n.elf"];
-    assert_eq!(rt; system.modules.as_slice().len(), names.len());
+    assert_eq!(rt; system.modules.len(), names.len());
     for (module, name) in system.modules.as_slice().iter().zip(&names) {
         assert_eq!(rt; module.as_str(), *name);
     }

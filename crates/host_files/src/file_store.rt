@@ -2,7 +2,8 @@
 ghost use Rattle.std.specs.Prelude.{◌≡◌, ◌≤◌, length};
 ghost use Rattle.outside_io.specs.Causes.{Rose};
 
-use outside_io::{Content, Fetched, LastName, Store, StoreFault};
+use item_list::Items;
+use outside_io::{Fetched, LastName, Store, StoreFault};
 use std::alloc::Global;
 use std::fs;
 use std::io::Read;
@@ -81,7 +82,7 @@ fn read_file<R: Files>(
             Err(_) => return Err(StoreFault::Failed),
         };
         if count == 0 {
-            return Ok(Fetched::Bytes(Content::new(bytes)));
+            return Ok(Fetched::Bytes(Items::new(bytes)));
         }
         if bytes.len() > limit || count > limit - bytes.len() {
             return Ok(Fetched::Larger);

@@ -4,7 +4,8 @@ ghost use Rattle.outside_io.specs.Memory.{content_of, file_of, is_named, same_by
 ghost use Rattle.outside_io.specs.Causes.{Rose};
 ghost use Rattle.outside_io.specs.Store.{Fetches};
 
-use crate::{Content, Fetched, LastName, Store, StoreFault};
+use crate::{Fetched, LastName, Store, StoreFault};
+use item_list::Items;
 use std::alloc::Global;
 
 /// A store over pairs of a name and bytes, for tests: it fails at the fetches that it was told, and at names that it
@@ -19,7 +20,7 @@ pub struct MemoryStore {
 }
 
 impl MemoryStore {
-    ghost use Rattle.outside_io.specs.MemoryStore.{files_of, failing_numbers, fetch_count, fault_count, last_failed};
+    ghost use Rattle.outside_io.specs.MemoryStore.{files_of, failing_numbers, fetch_count, store_faults, last_failed};
 
     /// A store of these pairs, of which the first of a name counts. It fails at the fetches of these numbers, counted
     /// from 1.
@@ -27,7 +28,7 @@ impl MemoryStore {
         ensures files { files_of result ≡ content_of files.items }
         ensures failing { failing_numbers result ≡ failing.items }
         ensures fetches { fetch_count result ≡ 0 }
-        ensures faults { fault_count result ≡ 0 }
+        ensures faults { store_faults result ≡ 0 }
         ensures last { last_failed result ≡ [] }
     {
         MemoryStore {
@@ -44,8 +45,8 @@ impl MemoryStore {
         requires { length name.now ≤ 255 }
         ensures answer { result ≡ StoreFault.Failed }
         ensures files { files_of self.new ≡ files_of self.old }
-        ensures rose { Rose (fault_count self.old) (fault_count self.new) }
-        ensures later { fault_count self.old ≤ fault_count self.new }
+        ensures rose { Rose (store_faults self.old) (store_faults self.new) }
+        ensures later { store_faults self.old ≤ store_faults self.new }
         ensures name { last_failed self.new ≡ name.now }
         ensures failing { failing_numbers self.new ≡ failing_numbers self.old }
         ensures fetches { fetch_count self.new ≡ fetch_count self.old }
@@ -81,12 +82,12 @@ fn find_file<'a>(files: &'a [(String, Vec<u8>)], name: &str) -> Option<&'a (Stri
 impl Store for MemoryStore {
     ghost use Rattle.std.specs.Prelude.{◌≡◌, ◌≤◌, ◌||◌, ◌↔◌, ◌+◌, ◌-◌, ◌^◌, min, length, IsTrue, IsErrOf, is_none};
     ghost use Rattle.outside_io.specs.Store.{TellsHeld, FetchCause};
-    ghost use Rattle.outside_io.specs.MemoryStore.{files_of, failing_numbers, fetch_count, fault_count, last_failed, fails_next};
+    ghost use Rattle.outside_io.specs.MemoryStore.{files_of, failing_numbers, fetch_count, store_faults, last_failed, fetch_fails_next};
     ghost use Rattle.std.specs.Prelude.{Some};
 
     ghost held = { λ store. Some (files_of store) };
 
-    ghost faults = { λ store. fault_count store };
+    ghost faults = { λ store. store_faults store };
 
     ghost failed_last = { λ store. last_failed store };
 
@@ -95,8 +96,8 @@ impl Store for MemoryStore {
         requires short { length name.now ≤ 255 }
         ensures told { TellsHeld (Some (files_of self.old)) name.now limit result }
         ensures stays { Some (files_of self.new) ≡ Some (files_of self.old) }
-        ensures cause { FetchCause (fault_count self.old) (fault_count self.new) (last_failed self.old) (last_failed self.new) name.now result }
-        ensures exact { IsErrOf result StoreFault.Failed ↔ IsTrue (fails_next self.old || is_none (files_of self.old name.now)) }
+        ensures cause { FetchCause (store_faults self.old) (store_faults self.new) (last_failed self.old) (last_failed self.new) name.now result }
+        ensures exact { IsErrOf result StoreFault.Failed ↔ IsTrue (fetch_fails_next self.old || is_none (files_of self.old name.now)) }
         ensures failing { failing_numbers self.new ≡ failing_numbers self.old }
         ensures counted { fetch_count self.new ≡ min (fetch_count self.old + 1) (2 ^ 32 - 1) }
     {
@@ -122,7 +123,7 @@ fn give(alloc: Global, bytes: &[u8], limit: u32) -> Result<Fetched, StoreFault>
         return Ok(Fetched::Larger);
     }
     match bytes.to_vec(alloc) {
-        Ok(copy) => Ok(Fetched::Bytes(Content::new(copy))),
+        Ok(copy) => Ok(Fetched::Bytes(Items::new(copy))),
         Err(_) => Err(StoreFault::NoMemory),
     }
 }

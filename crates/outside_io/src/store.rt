@@ -2,14 +2,14 @@
 ghost use Rattle.std.specs.Prelude.{◌≡◌, ◌≤◌, ℕ, List, length, Option};
 ghost use Rattle.outside_io.specs.Store.{Files, TellsHeld, FetchCause};
 
-use crate::Content;
+use item_list::Items;
 use std::alloc::Global;
 
 /// What a fetch got.
 #[derive(Drop)]
 pub enum Fetched {
     /// All that the name holds.
-    Bytes(Content),
+    Bytes(Items<u8>),
     /// The name holds more bytes than the limit.
     Larger,
 }

@@ -7,20 +7,20 @@ use Rattle.std.proofs.lemmas.Bool.{and_parts, cases_Bool, ltb-true}
 use Rattle.std.proofs.lemmas.List.Sums.{sum_by-cons}
 use Rattle.std.proofs.lemmas.Bool.Decides.{nat_tests}
 use Rattle.device_script.specs.declared.event.Event.{Event}
-use Rattle.device_script.specs.Event.{Events, IsScript, is_event, is_device_event, rises, count_at}
+use Rattle.device_script.specs.Event.{Events, IsScript, is_event, is_device_event, ticks_rise, count_at}
 use Rattle.run_lines.specs.Ticks.{at_tick}
 use Rattle.rt_core.specs.Coming.{above, comes, AreComing}
 
 -- events of later ticks alone
-none_now : (from t : ℕ) (es : Events) → t < from → rises from es ≡ true → at_tick t es ≡ []
+none_now : (from t : ℕ) (es : Events) → t < from → ticks_rise from es ≡ true → at_tick t es ≡ []
 none_now from t [] later order = refl
 none_now from t (e ∷ es) later order = let rest = none_now e.0 t es in grind (arith, nat_tests)
 
-all_above : (from t : ℕ) (es : Events) → t < from → rises from es ≡ true → above t es ≡ es
+all_above : (from t : ℕ) (es : Events) → t < from → ticks_rise from es ≡ true → above t es ≡ es
 all_above from t [] later order = refl
 all_above from t (e ∷ es) later order = let rest = all_above e.0 t es in grind (arith, nat_tests)
 
-rises_later : (t : ℕ) (es : Events) → rises t es ≡ true → comes t es ≡ false → rises (t + 1) es ≡ true
+rises_later : (t : ℕ) (es : Events) → ticks_rise t es ≡ true → comes t es ≡ false → ticks_rise (t + 1) es ≡ true
 rises_later t [] order other = refl
 rises_later t (e ∷ es) order other = grind (arith, nat_tests)
 
@@ -31,8 +31,8 @@ none_left t es c other =
     (none_now (t + 1) t es (omega arith) order, all_above (t + 1) t es (omega arith) order, record { good = c.good; order = order; few = c.few })
 
 -- where one comes, it is the first of the tick
-rises_same : (t : ℕ) (e : ℕ × Event) (es : Events) → rises t (e ∷ es) ≡ true → (e.0 == t) ≡ true → rises t es ≡ true
-rises_same t e es order same = let here : e.0 ≡ t = grind (arith, nat_tests) in rw (← here) (and_parts (nat_le t e.0) (rises e.0 es) order).1
+rises_same : (t : ℕ) (e : ℕ × Event) (es : Events) → ticks_rise t (e ∷ es) ≡ true → (e.0 == t) ≡ true → ticks_rise t es ≡ true
+rises_same t e es order same = let here : e.0 ≡ t = grind (arith, nat_tests) in rw (← here) (and_parts (nat_le t e.0) (ticks_rise e.0 es) order).1
 
 count_first : (t : ℕ) (e : ℕ × Event) (es : Events) → count_at t (e ∷ es) ≡ (if e.0 == t then 1 else 0) + count_at t es
 count_first t e es = sum_by-cons (λ d. if d.0 == t then 1 else 0) e es
@@ -134,6 +134,6 @@ came_same t n es d same inside = ap (comes t) (sym (drop_more es n d inside)) �
 pub script_coming : (es : Events) → IsScript es → AreComing 1 es
 script_coming es script = record { good = script.good; order = from_one es script.good script.order; few = script.few }
   where
-    from_one : (es : Events) → list_all is_event es ≡ true → rises 0 es ≡ true → rises 1 es ≡ true
+    from_one : (es : Events) → list_all is_event es ≡ true → ticks_rise 0 es ≡ true → ticks_rise 1 es ≡ true
     from_one [] good order = refl
     from_one (e ∷ es) good order = grind (arith, nat_tests)

@@ -32,11 +32,11 @@ use Rattle.schedule_laws.proofs.Printed.{loses_nothing}
 use Rattle.run_stream.specs.Start.{guest_start}
 use Rattle.side_digest.specs.Digest.{digest}
 use Rattle.bare_machine.specs.Run.{end_line}
-use Rattle.run_stream.specs.Lines.{text_of, guest_lines, bare_at, shown_at, shown_to, lines_shown}
+use Rattle.run_stream.specs.Lines.{text_of, guest_lines_at, bare_at, shown_at, shown_to, lines_shown}
 use Rattle.rtlinux_top.specs.Run.{flat_run}
 use Rattle.rtlinux_top.specs.Solution.{WritesSolution, HasHalves, guest_alone, shown_of, quiet_start, guest_shown, real_shown}
 use Rattle.rtlinux_top.specs.Answers.{AnswersTo}
-use Rattle.rtlinux_top.specs.Verdict.{verdict_of, output_of, flat_in}
+use Rattle.rtlinux_top.specs.Verdict.{verdict_of, verdict_output, flat_in}
 use Rattle.rtlinux_top.specs.Words.{Asked, Unknown, Flat, System}
 use Rattle.rtlinux_top.specs.declared.status.Status.{Status}
 use Rattle.rtlinux_top.proofs.Shown.{shows, shows_guest, shows_output}
@@ -99,12 +99,12 @@ stamped-guest : (t : ℕ) (lines : List GLine) → stamped t (map G lines) ≡ m
 stamped-guest t [] = refl
 stamped-guest t (line ∷ lines) = ap (λ rest. (t, G line) ∷ rest) (stamped-guest t lines)
 
-alone_to : (run : AcceptedRun) (n : ℕ) → shown_to Guest run n ≡ map (λ (line : ℕ × GLine). (line.0, G line.1)) (lines_to (guest_lines run) n)
+alone_to : (run : AcceptedRun) (n : ℕ) → shown_to Guest run n ≡ map (λ (line : ℕ × GLine). (line.0, G line.1)) (lines_to (guest_lines_at run) n)
 unfolding lines_to shown_at
 alone_to run zero = refl
 alone_to run (suc n) =
-    (λ i. alone_to run n i ++ stamped-guest (suc n) (guest_lines run n) i)
-    ∙ sym (map-append (λ (line : ℕ × GLine). (line.0, G line.1)) (lines_to (guest_lines run) n) (stamped (suc n) (guest_lines run n)))
+    (λ i. alone_to run n i ++ stamped-guest (suc n) (guest_lines_at run n) i)
+    ∙ sym (map-append (λ (line : ℕ × GLine). (line.0, G line.1)) (lines_to (guest_lines_at run) n) (stamped (suc n) (guest_lines_at run n)))
 
 but_last : (xs : List (ℕ × GLine)) (a b : ℕ × GLine) → take (length (xs ++ a ∷ b ∷ []) - 1) (xs ++ a ∷ b ∷ []) ≡ xs ++ a ∷ []
 but_last xs a b =
@@ -114,7 +114,7 @@ but_last xs a b =
 shows_alone : (run : AcceptedRun) → lines_shown Guest run ≡ guest_alone (guest_shown run)
 shows_alone run =
     let f : ℕ × GLine → ℕ × Line = λ line. (line.0, G line.1) in
-    let front = lines_to (guest_lines run) run.ticks in
+    let front = lines_to (guest_lines_at run) run.ticks in
     let end : ℕ × GLine = (run.ticks, end_line (bare_at run run.ticks)) in
     let memory : ℕ × GLine = (run.ticks, Memory (digest (bare_at run run.ticks).side.bytes)) in
     let whole : guest_shown run ≡ front ++ end ∷ memory ∷ [] = shows_guest run in
@@ -140,7 +140,7 @@ halves Both run g r s = (
   loses_nothing.of_real false (guest_start run) (quiet_start run) run.script.events run.ticks r (calls_of g) ∙ sym s.real_half,
 )
 
-writes : (verdict : Verdict) (old new : Option (List ℕ)) → ((run : AcceptedRun) → verdict ≡ Ok run → 1 ≤ run.ticks) → new ≡ appended old (output_of verdict)
+writes : (verdict : Verdict) (old new : Option (List ℕ)) → ((run : AcceptedRun) → verdict ≡ Ok run → 1 ≤ run.ticks) → new ≡ appended old (verdict_output verdict)
     → WritesSolution verdict old new
 writes (Ok run) old new some told =
     let s = shows run (some run refl) in (

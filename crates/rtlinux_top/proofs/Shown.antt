@@ -19,7 +19,7 @@ use Rattle.priority_schedule.specs.State.{RealTime}
 use Rattle.rt_core.specs.End.{quiet_end}
 use Rattle.run_files.specs.declared.run.AcceptedRun.{AcceptedRun}
 use Rattle.run_files.specs.declared.run.Shown.TheVariants.{Both}
-use Rattle.run_stream.specs.Lines.{guest_on, guest_lines, bare_at, shown_at, lines_shown}
+use Rattle.run_stream.specs.Lines.{guest_on, guest_lines_at, bare_at, shown_at, lines_shown}
 use Rattle.run_stream.specs.Start.{guest_start}
 use Rattle.schedule_laws.specs.Laws.{IsSolution}
 use Rattle.rtlinux_top.specs.Solution.{quiet_start, real_shown, guest_shown}
@@ -53,13 +53,13 @@ no_other run h g r sol =
     let same : r ≡ real_shown run = sol.real_half ∙ ap (real_time (quiet_start run) script run.ticks) none ∙ real_is (quiet_start run).side script run.ticks h in
     (sol.guest_half ∙ ap (bare (guest_start run) script run.ticks) same, same)
 
-pub shows_guest : (run : AcceptedRun) → guest_shown run ≡ lines_to (guest_lines run) run.ticks ++ stamped run.ticks (bare_end (bare_at run run.ticks))
+pub shows_guest : (run : AcceptedRun) → guest_shown run ≡ lines_to (guest_lines_at run) run.ticks ++ stamped run.ticks (bare_end (bare_at run run.ticks))
 shows_guest run =
     let n = run.ticks in
     let d = run.sides.memory.real_time in
     let b = bare_after (guest_start run) run.script.events (real_shown run) n in
-    ap (λ ls. ls ++ stamped n (bare_end b)) (lines_to-same (bare_lines (guest_start run) run.script.events (real_shown run)) (guest_lines run) n (λ k _. lines_same (guest_start run) run.script.events guest_on n d k))
-    ∙ ap (λ (x : Bare). lines_to (guest_lines run) n ++ stamped n (bare_end x)) (after_same (guest_start run) run.script.events guest_on n d n)
+    ap (λ ls. ls ++ stamped n (bare_end b)) (lines_to-same (bare_lines (guest_start run) run.script.events (real_shown run)) (guest_lines_at run) n (λ k _. lines_same (guest_start run) run.script.events guest_on n d k))
+    ∙ ap (λ (x : Bare). lines_to (guest_lines_at run) n ++ stamped n (bare_end x)) (after_same (guest_start run) run.script.events guest_on n d n)
 
 pub shows_output : (run : AcceptedRun)
     → lines_shown Both run ≡ run_output false (guest_start run) (quiet_start run) run.script.events run.ticks (real_shown run) (calls_of (guest_shown run))

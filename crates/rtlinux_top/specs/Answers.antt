@@ -13,12 +13,12 @@ use Rattle.run_stream.specs.Writes.{AppendsPart}
 use Rattle.rtlinux_top.specs.declared.last.Last.{Last}
 use Rattle.rtlinux_top.specs.declared.status.Status.{Status}
 use Rattle.rtlinux_top.specs.Last.{KeepsMachine}
-use Rattle.rtlinux_top.specs.Verdict.{asked_ticks, verdict_of, status_of, output_of}
+use Rattle.rtlinux_top.specs.Verdict.{asked_ticks, verdict_of, status_of, verdict_output}
 use Rattle.rtlinux_top.specs.Words.{Asked, Unknown, Flat, System}
 
 -- the answer is that of a verdict, and its output was written
 abbrev pub AnswersBy : Verdict → Status → Option (List ℕ) → Option (List ℕ) → Type 0
-AnswersBy verdict status old new = (status ≡ status_of verdict) × (new ≡ appended old (output_of verdict))
+AnswersBy verdict status old new = (status ≡ status_of verdict) × (new ≡ appended old (verdict_output verdict))
 
 -- the same, by the words and by what the files hold, where the store tells
 abbrev pub AnswersTo : Asked → Option Files → Status → Option (List ℕ) → Option (List ℕ) → Type 0
@@ -33,15 +33,15 @@ abbrev pub RefusesTicks : Asked → Type 0
 RefusesTicks asked = (word : List ℕ) × (asked_ticks asked ≡ Err (cause.Ticks, word))
 
 -- this is the name of a file of the command before which every file is accepted, where the store tells
-abbrev pub NamesFileOf : Asked → Option Files → List ℕ → Type 0
-NamesFileOf Unknown held name = ⊥
-NamesFileOf (Flat image word) held name = name ≡ image
-NamesFileOf (System run) held name = IfSome held (λ files. NamesFile run.system files name)
+abbrev pub NamesAskedFile : Asked → Option Files → List ℕ → Type 0
+NamesAskedFile Unknown held name = ⊥
+NamesAskedFile (Flat image word) held name = name ≡ image
+NamesAskedFile (System run) held name = IfSome held (λ files. NamesFile run.system files name)
 
 -- the words and the ticks are accepted, and a file of the command couldn't be read: the store's count of faults rose, and the name that
 -- failed last is that of such a file
 abbrev pub ReadFailed : Asked → Option Files → ℕ → ℕ → List ℕ → Type 0
-ReadFailed asked held before now name = Rose before now × HasTicks (asked_ticks asked) × NamesFileOf asked held name
+ReadFailed asked held before now name = Rose before now × HasTicks (asked_ticks asked) × NamesAskedFile asked held name
 
 -- a first part of the line of a file that couldn't be read was written
 abbrev pub WritesPartOfLine : List ℕ → Option (List ℕ) → Option (List ℕ) → Type 0
@@ -49,7 +49,7 @@ WritesPartOfLine name old new = AppendsPart old new (refusal_text cause.Read nam
 
 -- a first part of what the words and the files determine was written
 abbrev pub WritesPart : Asked → Files → Option (List ℕ) → Option (List ℕ) → Type 0
-WritesPart asked files old new = AppendsPart old new (output_of (verdict_of asked files))
+WritesPart asked files old new = AppendsPart old new (verdict_output (verdict_of asked files))
 
 -- a run of the ticks that the words say, which is that of the files where the store tells: all of its lines were written, the answer is
 -- whether a breach is among them, and its machine was kept after all ticks

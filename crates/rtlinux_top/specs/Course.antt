@@ -12,7 +12,7 @@ use Rattle.rtlinux_top.specs.declared.status.Status.{Status}
 use Rattle.rtlinux_top.specs.declared.status.Status.TheVariants.{Outside, RtFault, Usage, NoMemory}
 use Rattle.rtlinux_top.specs.Answers.{AnswersTo, AnswersWords, RefusesTicks, ReadFailed}
 use Rattle.rtlinux_top.specs.Status.{IsDetermined, HasRun}
-use Rattle.rtlinux_top.specs.Verdict.{refused}
+use Rattle.rtlinux_top.specs.Verdict.{refused_by}
 use Rattle.rtlinux_top.specs.Words.{Asked, Unknown}
 
 -- of the words, of what the store holds with its count of faults before and after and the name that failed last, of what the sink was told
@@ -21,7 +21,7 @@ pub record IsCourse (asked : Asked) (held : Option Files) (fetches_failed fetche
   pub told : IsDetermined status → AnswersTo asked held status old new
   pub early : IsDetermined status → AnswersWords asked status old new
   pub usage : status ≡ Usage → asked ≡ Unknown
-  pub ticks : status ≡ refused 40 0 → RefusesTicks asked
+  pub ticks : status ≡ refused_by 40 0 → RefusesTicks asked
   pub read : status ≡ Outside Read → ReadFailed asked held fetches_failed fetches_failed_now unread
   pub read_text : status ≡ Outside Read → new ≡ appended old (refusal_text cause.Read unread)
   pub write : status ≡ Outside Write → Rose puts_failed puts_failed_now

@@ -16,7 +16,7 @@ use Rattle.run_files.specs.declared.run.AcceptedRun.{AcceptedRun}
 use Rattle.run_files.specs.declared.run.Shown.{Shown}
 use Rattle.run_files.specs.declared.run.Shown.TheVariants.{Guest, Both}
 use Rattle.run_files.specs.Verdict.{Verdict}
-use Rattle.run_stream.specs.Lines.{guest_on, guest_lines, bare_at, lines_shown, text_of}
+use Rattle.run_stream.specs.Lines.{guest_on, guest_lines_at, bare_at, lines_shown, text_of}
 use Rattle.run_stream.specs.Start.{guest_start}
 use Rattle.schedule_laws.specs.Laws.{IsSolution}
 
@@ -47,7 +47,7 @@ NoOther =
 -- the guest's lines are those that the top call's clause names
 abbrev pub ShowsGuest : Type 0
 ShowsGuest =
-    (run : AcceptedRun) → guest_shown run ≡ lines_to (guest_lines run) run.ticks ++ stamped run.ticks (bare_end (bare_at run run.ticks))
+    (run : AcceptedRun) → guest_shown run ≡ lines_to (guest_lines_at run) run.ticks ++ stamped run.ticks (bare_end (bare_at run run.ticks))
 
 -- and what it shows is the output of both machines, in its order
 abbrev pub ShowsOutput : Type 0

@@ -29,21 +29,21 @@ verdict_of Unknown files = Err (cause.Words, [])
 verdict_of (Flat image word) files = ticks_in word >>= λ ticks. made_of_file (flat_in ticks) files image
 verdict_of (System run) files = run_verdict (Some run) files
 
-abbrev pub refused : ℕ → ℕ → Status
-refused number part = Refused (record { number = number; part = part })
+abbrev pub refused_by : ℕ → ℕ → Status
+refused_by number part = Refused (record { number = number; part = part })
 
 -- the answer to a refusal
 abbrev pub status_by : Cause → Status
 status_by cause.Words = Usage
-status_by cause.Ticks = refused 40 0
+status_by cause.Ticks = refused_by 40 0
 status_by cause.Read = Outside Read
-status_by cause.TooLarge = refused 12 0
-status_by cause.Document = refused 10 0
-status_by cause.Field = refused 11 0
-status_by (cause.Image rule) = refused 20 rule
-status_by cause.Outside = refused 21 0
-status_by cause.Overlap = refused 22 0
-status_by (cause.Line line) = refused 30 0
+status_by cause.TooLarge = refused_by 12 0
+status_by cause.Document = refused_by 10 0
+status_by cause.Field = refused_by 11 0
+status_by (cause.Image rule) = refused_by 20 rule
+status_by cause.Outside = refused_by 21 0
+status_by cause.Overlap = refused_by 22 0
+status_by (cause.Line line) = refused_by 30 0
 
 -- the answer to a verdict
 abbrev pub status_of : Verdict → Status
@@ -51,6 +51,6 @@ status_of (Err about) = status_by about.0
 status_of (Ok run) = if has_breach (run_shown run) then Breach else Done
 
 -- what is written for a verdict
-abbrev pub output_of : Verdict → List ℕ
-output_of (Err about) = refusal_text about.0 about.1
-output_of (Ok run) = text_of (run_shown run)
+abbrev pub verdict_output : Verdict → List ℕ
+verdict_output (Err about) = refusal_text about.0 about.1
+verdict_output (Ok run) = text_of (run_shown run)

@@ -2,8 +2,9 @@
 use Rattle.std.specs.Prelude.{ℕ, List, [], ◌∷◌, ◌&&◌, if◌then◌else◌, codes, Option, Some, None, String, string_bytes, map}
 use Rattle.std.specs.declared.alloc.Global.{Global}
 use Rattle.outside_io.specs.Memory.{same_bytes}
+use Rattle.outside_io.specs.Names.{is_name}
 use Rattle.command_words.specs.Run.{AskedRun, run_words_of}
-use Rattle.command_words.specs.Values.{is_name, is_number}
+use Rattle.command_words.specs.Values.{is_number}
 
 -- nothing that there is; the run of a flat image, with the word of its ticks; or the run of a system
 pub data Asked : Type 0 where

@@ -8,7 +8,7 @@ ghost use Rattle.rtlinux_top.specs.Answers.{AnswersTo, AnswersWords, RefusesTick
 ghost use Rattle.rtlinux_top.specs.Course.{IsCourse};
 ghost use Rattle.rtlinux_top.specs.Solution.{WritesSolution};
 ghost use Rattle.rtlinux_top.specs.Status.{IsDetermined, HasRun};
-ghost use Rattle.rtlinux_top.specs.Verdict.{verdict_of, refused as refused_of};
+ghost use Rattle.rtlinux_top.specs.Verdict.{verdict_of, refused_by as refused_of};
 ghost use Rattle.rtlinux_top.specs.Words.{command_of, Unknown};
 
 use crate::last::Last;

@@ -6,7 +6,7 @@ ghost use Rattle.run_files.specs.Refusal.{Accepts, Tells, FaultsBy, BlamesBytes,
 ghost use Rattle.run_files.specs.Verdict.{about, made_of_file};
 ghost use Rattle.run_request.specs.Open.{IsReady};
 ghost use Rattle.run_request.specs.Request.{FollowsWords};
-ghost use Rattle.rtlinux_top.specs.Answers.{NamesFileOf};
+ghost use Rattle.rtlinux_top.specs.Answers.{NamesAskedFile};
 ghost use Rattle.rtlinux_top.specs.Words.{asked_of, flat_asked, run_asked, texts};
 ghost use Rattle.rtlinux_top.specs.Verdict.{verdict_of, asked_ticks, flat_in};
 
@@ -69,7 +69,7 @@ fn request_flat<S: Store>(
 ) -> Result<AcceptedRun, Refusal>
     ensures told { IfSome (S.held store.old) (λ files. Tells result (verdict_of (flat_asked (texts words.now)) files)) }
     ensures words { FollowsWords result (asked_ticks (flat_asked (texts words.now))) }
-    ensures unread { IfUnread result (NamesFileOf (flat_asked (texts words.now)) (S.held store.old)) }
+    ensures unread { IfUnread result (NamesAskedFile (flat_asked (texts words.now)) (S.held store.old)) }
     ensures ready { IfOk result IsReady }
     ensures cause { FaultsBy (S.faults store.old) (S.faults store.new) (S.failed_last store.new) result }
 {
@@ -97,7 +97,7 @@ fn request_system<S: Store>(
     ensures told { IfSome (S.held store.old) (λ files.
         Tells result (verdict_of (run_asked (run_words_of (texts words.now))) files)) }
     ensures words { FollowsWords result (asked_ticks (run_asked (run_words_of (texts words.now)))) }
-    ensures unread { IfUnread result (NamesFileOf (run_asked (run_words_of (texts words.now))) (S.held store.old)) }
+    ensures unread { IfUnread result (NamesAskedFile (run_asked (run_words_of (texts words.now))) (S.held store.old)) }
     ensures ready { IfOk result IsReady }
     ensures cause { FaultsBy (S.faults store.old) (S.faults store.new) (S.failed_last store.new) result }
 {
@@ -120,7 +120,7 @@ pub fn read_request<S: Store>(
 ) -> Result<AcceptedRun, Refusal>
     ensures told { IfSome (S.held store.old) (λ files. Tells result (verdict_of (asked_of (texts words.now)) files)) }
     ensures words { FollowsWords result (asked_ticks (asked_of (texts words.now))) }
-    ensures unread { IfUnread result (NamesFileOf (asked_of (texts words.now)) (S.held store.old)) }
+    ensures unread { IfUnread result (NamesAskedFile (asked_of (texts words.now)) (S.held store.old)) }
     ensures ready { IfOk result IsReady }
     ensures cause { FaultsBy (S.faults store.old) (S.faults store.new) (S.failed_last store.new) result }
 {

@@ -4,7 +4,7 @@ ghost use Rattle.outside_io.specs.Causes.{Rose};
 ghost use Rattle.run_request.specs.Open.{IsReady};
 ghost use Rattle.rtlinux_top.specs.Answers.{AnswersBy};
 ghost use Rattle.rtlinux_top.specs.Status.{IsDetermined, HasRun};
-ghost use Rattle.rtlinux_top.specs.Verdict.{output_of, refused as refused_of};
+ghost use Rattle.rtlinux_top.specs.Verdict.{verdict_output, refused_by as refused_of};
 ghost use Rattle.run_stream.specs.Writes.{AppendsPart};
 ghost use Rattle.rtlinux_top.specs.Last.{KeepsMachine};
 
@@ -30,7 +30,7 @@ pub fn run_accepted<K: Sink>(
     ensures dropped { ¬ HasRun result → last.new ≡ Last.Nothing }
     ensures write { result ≡ Status.Outside Device.Write → Rose (K.faults sink.old) (K.faults sink.new) }
     ensures part { result ≡ Status.Outside Device.Write
-        → AppendsPart (K.written sink.old) (K.written sink.new) (output_of (Ok run)) }
+        → AppendsPart (K.written sink.old) (K.written sink.new) (verdict_output (Ok run)) }
     ensures fault { K.faults sink.old < K.faults sink.new → result ≡ Status.Outside Device.Write }
     ensures memory { result ≡ Status.NoMemory → K.written sink.new ≡ K.written sink.old }
     ensures others { (result ≢ Status.Usage) × (result ≢ Status.RtFault)

@@ -1,6 +1,6 @@
 // The answers of the top call.
 ghost use Rattle.std.specs.Prelude.{◌≡◌};
-ghost use Rattle.rtlinux_top.specs.Verdict.{refused as refused_of, status_by};
+ghost use Rattle.rtlinux_top.specs.Verdict.{refused_by as refused_of, status_by};
 
 use run_files::Cause;
 

@@ -11,7 +11,7 @@ use Rattle.outside_io.specs.Names.{is_name, IsName}
 use Rattle.run_files.specs.Refusal.{Accepts}
 use Rattle.run_files.specs.Verdict.{about}
 use Rattle.run_files.specs.declared.cause.Cause.{Cause}
-use Rattle.run_files.specs.Files.{IsAccepted, system_in, members_in, fields_in, alone}
+use Rattle.run_files.specs.Files.{IsAccepted, system_in, members_in, fields_in, if_no_modules}
 
 required_good : {A : Type 0} (P : A → Type 0) (read : Data → Option A) (o : Option Data) (x : A) → ((d : Data) (y : A) → read d ≡ Some y → P y) → required read o ≡ Some x → P x
 required_good P read None x good same = absurd cc
@@ -118,11 +118,11 @@ system_keeps ms s same = go (has_only_fields ms) same
     go true h = fields_keep ms s h
     go false h = absurd cc
 
-alone_is : (modules : List (List ℕ)) (t s : System) → alone modules t ≡ Ok s → (t ≡ s) × (modules ≡ [])
+alone_is : (modules : List (List ℕ)) (t s : System) → if_no_modules modules t ≡ Ok s → (t ≡ s) × (modules ≡ [])
 alone_is [] t s same = (cc, refl)
 alone_is (name ∷ names) t s same = absurd cc
 
-accepted : (t s : System) → Keeps t → alone t.modules t ≡ Ok s → IsAccepted s
+accepted : (t s : System) → Keeps t → if_no_modules t.modules t ≡ Ok s → IsAccepted s
 accepted t s keeps same =
     let is = alone_is t.modules t s same in
     rw (← is.0) (record { image = keeps.image; script = keeps.script; guest = keeps.guest; real_time = keeps.real_time; modules = is.1 })

@@ -22,13 +22,13 @@ file_limit = 2 ^ 25
 
 -- The system file
 
-abbrev pub alone : List (List ℕ) → System → Result System Cause
-alone [] system = Ok system
-alone (name ∷ names) system = Err cause.Field
+abbrev pub if_no_modules : List (List ℕ) → System → Result System Cause
+if_no_modules [] system = Ok system
+if_no_modules (name ∷ names) system = Err cause.Field
 
 -- a system without modules; one that has some is refused by its field
 abbrev pub without_modules : System → Result System Cause
-without_modules system = alone system.modules system
+without_modules system = if_no_modules system.modules system
 
 abbrev pub fields_in : Option System → Result System Cause
 fields_in None = Err cause.Field

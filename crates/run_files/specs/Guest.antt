@@ -12,23 +12,23 @@ pub data Misfit : Type 0 where
   PartsOverlap : Misfit
 
 -- the bytes of the side, and the address of the first instruction
-abbrev pub Placed : Type 0
-Placed = List ℕ × ℕ
+abbrev pub GuestSide : Type 0
+GuestSide = List ℕ × ℕ
 
-abbrev pub if_apart : Option (List Span) → Placed → Result Placed Misfit
+abbrev pub if_apart : Option (List Span) → GuestSide → Result GuestSide Misfit
 if_apart None placed = Err PartsOverlap
 if_apart (Some spans) placed = Ok placed
 
 -- an image over bytes from address 0 on, of which none is reserved
-unfoldable pub placing_of : List ℕ → Image → Result Placed Misfit
+unfoldable pub placing_of : List ℕ → Image → Result GuestSide Misfit
 placing_of bytes image =
     if all_inside (side_at 0 bytes) image.segments
     then if_apart (spans_with [] image.segments) ((with_segments (side_at 0 bytes) image.segments).bytes, image.entry)
     else Err PartOutside
 
 -- how a placing answers, and what bytes it leaves: a refusal leaves them as they were
-abbrev pub Places : List ℕ → Image → List ℕ → Result ℕ PlaceRefusal → Type 0
-Places old image new (Ok entry) = placing_of old image ≡ Ok (new, entry)
-Places old image new (Err Outside) = (placing_of old image ≡ Err PartOutside) × (new ≡ old)
-Places old image new (Err Overlap) = (placing_of old image ≡ Err PartsOverlap) × (new ≡ old)
-Places old image new (Err NoMemory) = new ≡ old
+abbrev pub PlacesOnGuest : List ℕ → Image → List ℕ → Result ℕ PlaceRefusal → Type 0
+PlacesOnGuest old image new (Ok entry) = placing_of old image ≡ Ok (new, entry)
+PlacesOnGuest old image new (Err Outside) = (placing_of old image ≡ Err PartOutside) × (new ≡ old)
+PlacesOnGuest old image new (Err Overlap) = (placing_of old image ≡ Err PartsOverlap) × (new ≡ old)
+PlacesOnGuest old image new (Err NoMemory) = new ≡ old

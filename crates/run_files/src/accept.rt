@@ -1,6 +1,6 @@
 // What the files hold.
 ghost use Rattle.std.specs.Prelude.{◌≡◌, ◌≤◌, length, IfOk, All};
-ghost use Rattle.elf_loader.specs.Place.{Fits};
+ghost use Rattle.elf_loader.specs.Place.{FitsSize};
 ghost use Rattle.device_script.specs.Event.{IsScript};
 ghost use Rattle.run_files.specs.Files.{IsAccepted, system_in, without_modules, placed_in, sides_in, script_in, file_limit};
 ghost use Rattle.run_files.specs.Refusal.{Accepts, BlamesBytes};
@@ -27,7 +27,7 @@ pub fn accept_system(alloc: Global, name: &[u8], bytes: &[u8]) -> Result<System,
     read(alloc, name, bytes)
 }
 
-#[tactic(auto, unfolding(crate::specs::Files::system_in, system_file::specs::Read::read_of))]
+#[tactic(auto, unfolding(crate::specs::Files::system_in, system_file::specs::Read::system_of_file))]
 fn read(alloc: Global, name: &[u8], bytes: &[u8]) -> Result<System, Refusal>
     requires { length name.now ≤ 255 }
     ensures exact { Accepts result (about name.now (system_in bytes.now)) }
@@ -47,7 +47,7 @@ fn alone(name: &[u8], system: System) -> Result<System, Refusal>
     ensures exact { Accepts result (about name.now (without_modules system)) }
     ensures blame { BlamesBytes result }
 {
-    if system.modules.as_slice().is_empty() {
+    if system.modules.is_empty() {
         Ok(system)
     } else {
         Err(refused(Cause::Field, name))
@@ -80,7 +80,7 @@ pub fn accept_image(
 // Puts an image on the guest's side.
 fn placed(alloc: Global, name: &[u8], system: &System, image: &Image) -> Result<Sides, Refusal>
     requires name { length name.now ≤ 255 }
-    requires fits { All Fits image.now.segments }
+    requires fits { All FitsSize image.now.segments }
     requires room { 2 ≤ system.now.real_time_memory }
     ensures exact { Accepts result (about name.now (placed_in system.now image.now)) }
     ensures blame { BlamesBytes result }

@@ -1,7 +1,7 @@
 // Both sides as a run starts.
 ghost use Rattle.std.specs.Prelude.{◌≡◌, ◌≤◌, length, IfOk, All};
-ghost use Rattle.elf_loader.specs.Place.{Fits};
-ghost use Rattle.run_files.specs.Sides.{sides_of, Makes};
+ghost use Rattle.elf_loader.specs.Place.{FitsSize};
+ghost use Rattle.run_files.specs.Sides.{sides_of, MakesSides};
 
 use crate::image::place_image;
 use crate::stub::store_stub;
@@ -24,9 +24,9 @@ pub fn make_sides(
     real_time_size: u32,
     image: &Image,
 ) -> Result<Sides, PlaceRefusal>
-    requires fits { All Fits image.now.segments }
+    requires fits { All FitsSize image.now.segments }
     requires room { 2 ≤ real_time_size }
-    ensures exact { Makes result (sides_of guest_size real_time_size image.now) }
+    ensures exact { MakesSides result (sides_of guest_size real_time_size image.now) }
     ensures guest_size { IfOk result (λ sides. length sides.memory.guest ≡ guest_size) }
     ensures real_time_size { IfOk result (λ sides. length sides.memory.real_time ≡ real_time_size) }
 {

@@ -34,6 +34,6 @@ FollowsWords (Err (Because why name)) said = BlamesWords why name said
 FollowsWords (Err NoMemory) said = Unit {0}
 
 -- this is a file of the run before which all files are accepted, where the store tells
-abbrev pub NamesFileOf : Option AskedRun → Option Files → List ℕ → Type 0
-NamesFileOf None held name = ⊥
-NamesFileOf (Some run) held name = IfSome held (λ files. NamesFile run.system files name)
+abbrev pub NamesRunFile : Option AskedRun → Option Files → List ℕ → Type 0
+NamesRunFile None held name = ⊥
+NamesRunFile (Some run) held name = IfSome held (λ files. NamesFile run.system files name)

@@ -7,7 +7,8 @@ ghost use Rattle.run_files.specs.Verdict.{made_of_file};
 ghost use Rattle.run_request.specs.Fetch.{file_bytes};
 
 use device_script::Script;
-use outside_io::{Content, Fetched, Store, StoreFault};
+use item_list::Items;
+use outside_io::{Fetched, Store, StoreFault};
 use run_files::{
     Cause, FILE_LIMIT, Refusal, Sides, accept_image, accept_script, accept_system, refused,
 };
@@ -15,7 +16,7 @@ use std::alloc::Global;
 use system_file::System;
 
 /// The bytes of a file, which are no more than the limit also where the store tells nothing.
-pub fn fetch_file<S: Store>(alloc: Global, store: &mut S, name: &str) -> Result<Content, Refusal>
+pub fn fetch_file<S: Store>(alloc: Global, store: &mut S, name: &str) -> Result<Items<u8>, Refusal>
     requires some { 1 ≤ length name.now }
     requires short { length name.now ≤ 255 }
     ensures told { IfSome (S.held store.old) (λ files. Tells result (file_bytes files name.now)) }
@@ -27,7 +28,7 @@ pub fn fetch_file<S: Store>(alloc: Global, store: &mut S, name: &str) -> Result<
 {
     match store.fetch(alloc, name, FILE_LIMIT) {
         Ok(Fetched::Bytes(content)) => {
-            if content.as_slice().len() > FILE_LIMIT as usize {
+            if content.len() > FILE_LIMIT as usize {
                 return Err(refused(Cause::TooLarge, name.as_bytes()));
             }
             Ok(content)

@@ -7,7 +7,8 @@ ghost use Rattle.run_files.specs.Verdict.{system_verdict, image_verdict, script_
 ghost use Rattle.run_request.specs.Open.{IsReady, NamesFile, NamesImage};
 
 use crate::fetch::{open_image, open_script, open_system};
-use device_script::{Events, Script};
+use device_script::Script;
+use item_list::Items;
 use outside_io::Store;
 use run_files::{AcceptedRun, Refusal, Shown, Sides};
 use std::alloc::Global;
@@ -105,6 +106,6 @@ pub fn no_script(alloc: Global) -> Script
     ensures { result.events ≡ [] }
 {
     Script {
-        events: Events::new(Vec::new(alloc)),
+        events: Items::empty(alloc),
     }
 }

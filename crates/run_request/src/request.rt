@@ -4,7 +4,7 @@ ghost use Rattle.command_words.specs.Run.{run_words_of};
 ghost use Rattle.run_files.specs.Refusal.{Tells, FaultsBy, IfUnread};
 ghost use Rattle.run_files.specs.Verdict.{run_ticks, run_verdict};
 ghost use Rattle.run_request.specs.Open.{IsReady};
-ghost use Rattle.run_request.specs.Request.{FollowsWords, NamesFileOf};
+ghost use Rattle.run_request.specs.Request.{FollowsWords, NamesRunFile};
 
 use crate::open::open_run;
 use command_words::{WordsRefusal, read_run_words, read_ticks};
@@ -22,7 +22,7 @@ pub fn request_run<S: Store>(
     ensures told { IfSome (S.held store.old) (λ files.
         Tells result (run_verdict (run_words_of (map string_bytes words.now)) files)) }
     ensures words { FollowsWords result (run_ticks (run_words_of (map string_bytes words.now))) }
-    ensures unread { IfUnread result (NamesFileOf (run_words_of (map string_bytes words.now)) (S.held store.old)) }
+    ensures unread { IfUnread result (NamesRunFile (run_words_of (map string_bytes words.now)) (S.held store.old)) }
     ensures ready { IfOk result IsReady }
     ensures stays { S.held store.new ≡ S.held store.old }
     ensures cause { FaultsBy (S.faults store.old) (S.faults store.new) (S.failed_last store.new) result }

@@ -24,7 +24,7 @@ use Rattle.rt_core.specs.Coming.{above}
 use Rattle.rt_core.specs.Machine.{MachineParts, bare_of, com1_of, board_after}
 use Rattle.rt_core.specs.Pick.{guest_picked}
 use Rattle.run_stream.specs.Ran.{HasRunTo, board_at}
-use Rattle.run_stream.specs.Lines.{guest_on, guest_lines, bare_at}
+use Rattle.run_stream.specs.Lines.{guest_on, guest_lines_at, bare_at}
 use Rattle.run_stream.proofs.Holding.{holder_next, picked_at, held_none}
 
 -- before the first tick, all events of a script are to come
@@ -92,7 +92,7 @@ ran_next run t old new r g before tick = record {
   ticks = tick.ticks ∙ ap (λ n. n + 1) before.ticks;
 }
 
-pub said_g : (run : AcceptedRun) (t : ℕ) (old new : MachineParts) (r : List RLine) (g : List GLine) → HasRunTo run t old → Ticked old new r g → g ≡ guest_lines run t
+pub said_g : (run : AcceptedRun) (t : ℕ) (old new : MachineParts) (r : List RLine) (g : List GLine) → HasRunTo run t old → Ticked old new r g → g ≡ guest_lines_at run t
 unfolding bare_lines
 said_g run t old new r g before tick =
     tick.guest_lines ∙ same_tick_lines (same_count run t old before) (same_events run t old before) (same_sight run t old new r g before tick) before.bare

@@ -19,7 +19,7 @@ use Rattle.rt_core.specs.Machine.{MachineParts, bare_of}
 use Rattle.run_files.specs.declared.run.Shown.{Shown}
 use Rattle.run_files.specs.declared.run.Shown.TheVariants.{Guest, Both}
 use Rattle.run_stream.specs.Ran.{HasRunTo}
-use Rattle.run_stream.specs.Lines.{guest_on, guest_lines, shown, ends_among, ends_shown, shown_at, shown_to, lines_shown, bare_at, text_of, tick_text, piece_of, has_breach, shows_breach, is_breach}
+use Rattle.run_stream.specs.Lines.{guest_on, guest_lines_at, tick_shown, ends_among, ends_shown, shown_at, shown_to, lines_shown, bare_at, text_of, tick_text, piece_of, has_breach, shows_breach, is_breach}
 use Rattle.run_stream.proofs.Written.{appended_twice, appended_nothing}
 
 pub text-stamped : (t : ℕ) (lines : List Line) → text_of (stamped t lines) ≡ tick_text t lines
@@ -32,7 +32,7 @@ unfolding lines_to
 text_next which run t =
     rw add-one (flat_map-append piece_of (shown_to which run t) (stamped (suc t) (shown_at which run t)) ∙ ap (λ (xs : List ℕ). text_of (shown_to which run t) ++ xs) (text-stamped (suc t) (shown_at which run t)))
 
-pub shown_same : (which : Shown) (run : AcceptedRun) (t : ℕ) (r : List RLine) (g : List GLine) → r ≡ at_tick (suc t) guest_on → g ≡ guest_lines run t → shown which r g ≡ shown_at which run t
+pub shown_same : (which : Shown) (run : AcceptedRun) (t : ℕ) (r : List RLine) (g : List GLine) → r ≡ at_tick (suc t) guest_on → g ≡ guest_lines_at run t → tick_shown which r g ≡ shown_at which run t
 unfolding shown_at
 shown_same which run t r g real guest = rw (real, guest) refl
 
@@ -88,11 +88,11 @@ breach-real : (lines : List RLine) (others : List Line) → list_any shows_breac
 breach-real [] others = refl
 breach-real (line ∷ lines) others = breach-real lines others
 
-breach-shown : (which : Shown) (r : List RLine) (g : List GLine) → list_any shows_breach (shown which r g) ≡ list_any is_breach g
+breach-shown : (which : Shown) (r : List RLine) (g : List GLine) → list_any shows_breach (tick_shown which r g) ≡ list_any is_breach g
 breach-shown Guest r g = breach-guest g
 breach-shown Both r g = breach-real r (map G g) ∙ breach-guest g
 
-pub breach_next : (which : Shown) (run : AcceptedRun) (t : ℕ) (r : List RLine) (g : List GLine) (before now : Bool) → shown which r g ≡ shown_at which run t → before ≡ has_breach (shown_to which run t) → now ≡ (before || list_any is_breach g) → now ≡ has_breach (shown_to which run (t + 1))
+pub breach_next : (which : Shown) (run : AcceptedRun) (t : ℕ) (r : List RLine) (g : List GLine) (before now : Bool) → tick_shown which r g ≡ shown_at which run t → before ≡ has_breach (shown_to which run t) → now ≡ (before || list_any is_breach g) → now ≡ has_breach (shown_to which run (t + 1))
 unfolding lines_to
 breach_next which run t r g before now same so_far found =
     rw add-one (found ∙ ap (λ (x : Bool). x || list_any is_breach g) so_far

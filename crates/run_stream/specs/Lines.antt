@@ -24,9 +24,9 @@ abbrev pub guest_on : List (ℕ × RLine)
 guest_on = (1, On who.Guest) ∷ []
 
 -- the lines of a tick that are shown: the guest's alone, or those of both halves
-abbrev pub shown : Shown → List RLine → List GLine → List Line
-shown Guest r g = map G g
-shown Both r g = tick_lines false r [] g
+abbrev pub tick_shown : Shown → List RLine → List GLine → List Line
+tick_shown Guest r g = map G g
+tick_shown Both r g = tick_lines false r [] g
 
 -- the end lines that are shown: the guest's first one alone, or all of both halves
 abbrev pub ends_among : Shown → List RLine → List GLine → List Line
@@ -40,12 +40,12 @@ ends_shown which real_time b = ends_among which (quiet_end real_time) (bare_end 
 abbrev pub bare_at : AcceptedRun → ℕ → Bare
 bare_at run n = bare_after (guest_start run) run.script.events guest_on n
 
-abbrev pub guest_lines : AcceptedRun → ℕ → List GLine
-guest_lines run n = bare_lines (guest_start run) run.script.events guest_on n
+abbrev pub guest_lines_at : AcceptedRun → ℕ → List GLine
+guest_lines_at run n = bare_lines (guest_start run) run.script.events guest_on n
 
 -- the lines of the tick after n ticks, in their order
 unfoldable pub shown_at : Shown → AcceptedRun → ℕ → List Line
-shown_at which run n = shown which (at_tick (suc n) guest_on) (guest_lines run n)
+shown_at which run n = tick_shown which (at_tick (suc n) guest_on) (guest_lines_at run n)
 
 -- the lines of ticks 1 to n
 abbrev pub shown_to : Shown → AcceptedRun → ℕ → List (ℕ × Line)

@@ -2,7 +2,7 @@
 ghost use Rattle.std.specs.Prelude.{◌≡◌, ◌++◌};
 ghost use Rattle.outside_io.specs.Sink.{Puts};
 ghost use Rattle.line_kinds.specs.declared.kinds.Line.TheVariants.{R, G};
-ghost use Rattle.run_stream.specs.Lines.{tick_text, piece_of, shown as shown_lines, ends_among, guest_text, real_time_text};
+ghost use Rattle.run_stream.specs.Lines.{tick_text, piece_of, tick_shown as shown_lines, ends_among, guest_text, real_time_text};
 
 use line_text::LineText;
 use outside_io::{Sink, SinkFault};

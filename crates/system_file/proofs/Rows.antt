@@ -3,18 +3,18 @@ use Rattle.std.proofs.Common.{◌≡◌, [], codes, refl, None, Ok, Err}
 use Rattle.toml.proofs.OnLiterals.{toml_on_literals}
 use Rattle.std.specs.Str.{is_utf8, chars}
 use Rattle.system_file.specs.Fields.{fields_of}
-use Rattle.system_file.specs.Read.{read_of}
+use Rattle.system_file.specs.Read.{system_of_file}
 use Rattle.system_file.specs.declared.system.SystemRefusal.TheVariants.{NotToml, Field}
 
-plain : read_of (codes "version = 1\nimage = \"k.bin\"\nguest_memory = 65536\nreal_time_memory = 65536\n")
+plain : system_of_file (codes "version = 1\nimage = \"k.bin\"\nguest_memory = 65536\nreal_time_memory = 65536\n")
     ≡ Ok (record { version = 1; image = codes "k.bin"; guest_memory = 65536; real_time_memory = 65536; modules = []; script = None })
-unfolding toml_on_literals read_of is_utf8 chars fields_of
+unfolding toml_on_literals system_of_file is_utf8 chars fields_of
 plain = refl
 
-no_value : read_of (codes "version =\n") ≡ Err NotToml
-unfolding toml_on_literals read_of is_utf8 chars fields_of
+no_value : system_of_file (codes "version =\n") ≡ Err NotToml
+unfolding toml_on_literals system_of_file is_utf8 chars fields_of
 no_value = refl
 
-no_image : read_of (codes "version = 1\nguest_memory = 65536\nreal_time_memory = 65536\n") ≡ Err Field
-unfolding toml_on_literals read_of is_utf8 chars fields_of
+no_image : system_of_file (codes "version = 1\nguest_memory = 65536\nreal_time_memory = 65536\n") ≡ Err Field
+unfolding toml_on_literals system_of_file is_utf8 chars fields_of
 no_image = refl

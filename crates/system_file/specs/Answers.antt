@@ -1,5 +1,6 @@
 -- How the readers of a system file and of its fields answer.
 use Rattle.std.specs.Prelude.{◌≡◌, Option, Some, None, Result, Ok, Err}
+use Rattle.system_file.specs.declared.system.System.{System}
 use Rattle.system_file.specs.declared.system.SystemRefusal.{SystemRefusal}
 use Rattle.system_file.specs.declared.system.SystemRefusal.TheVariants.{NotToml, Field, NoMemory}
 
@@ -11,6 +12,6 @@ Gives (Err Field) read = read ≡ None
 Gives (Err NoMemory) read = Unit {0}
 
 -- The same, of the whole.
-abbrev pub Answers : {A : Type 0} → Result A SystemRefusal → Result A SystemRefusal → Type 0
-Answers (Err NoMemory) read = Unit {0}
-Answers r read = r ≡ read
+abbrev pub ReadsSystem : Result System SystemRefusal → Result System SystemRefusal → Type 0
+ReadsSystem (Err NoMemory) read = Unit {0}
+ReadsSystem r read = r ≡ read

@@ -16,10 +16,10 @@ abbrev pub accepted : Option System → Result System SystemRefusal
 accepted None = Err Field
 accepted (Some s) = Ok s
 
-abbrev pub system_in : Option Members → Result System SystemRefusal
-system_in None = Err NotToml
-system_in (Some ms) = accepted (system_of ms)
+abbrev pub system_of_document : Option Members → Result System SystemRefusal
+system_of_document None = Err NotToml
+system_of_document (Some ms) = accepted (system_of ms)
 
 -- the system that the bytes hold, or why they hold none
-unfoldable pub read_of : List ℕ → Result System SystemRefusal
-read_of bytes = system_in (document_of bytes)
+unfoldable pub system_of_file : List ℕ → Result System SystemRefusal
+system_of_file bytes = system_of_document (document_of bytes)

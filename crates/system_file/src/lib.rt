@@ -17,6 +17,6 @@ mod name;
 mod read;
 mod system;
 
-pub use name::{Name, Names};
+pub use name::Name;
 pub use read::read_system;
 pub use system::{System, SystemRefusal};

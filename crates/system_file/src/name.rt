@@ -1,4 +1,4 @@
-// Names of files, and lists of them.
+// Names of files.
 
 ghost use Rattle.std.specs.Prelude.{◌≡◌, string_bytes};
 
@@ -38,42 +38,5 @@ impl Name {
         ensures { string_bytes result ≡ self }
     {
         self.text
-    }
-}
-
-/// Some names, in order. Contracts see their list.
-#[derive(Drop)]
-pub struct Names {
-    list: Vec<Name>,
-}
-
-impl Model for Names {
-    ghost use Rattle.std.specs.Prelude.{List, ℕ};
-
-    ghost Value = { List (List ℕ) };
-
-    ghost view = { λ n. n.list.items };
-}
-
-impl Names {
-    /// These names.
-    pub fn new(list: Vec<Name>) -> Names
-        ensures { result ≡ list.items }
-    {
-        Names { list }
-    }
-
-    /// The names, to be read.
-    pub fn as_slice(&self) -> &[Name]
-        ensures { result.now ≡ self.now }
-    {
-        self.list.as_slice()
-    }
-
-    /// The names, given back.
-    pub fn into_vec(self) -> Vec<Name>
-        ensures { result.items ≡ self }
-    {
-        self.list
     }
 }

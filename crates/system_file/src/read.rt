@@ -5,12 +5,13 @@ ghost use Rattle.std.specs.List.{list_all};
 ghost use Rattle.std.specs.BTreeMap.{keys};
 ghost use Rattle.toml.specs.Data.{array, integer, string, get_member};
 ghost use Rattle.toml.specs.View.{view, table_view, items_view};
-ghost use Rattle.system_file.specs.Answers.{Gives, Answers};
+ghost use Rattle.system_file.specs.Answers.{Gives, ReadsSystem};
 ghost use Rattle.system_file.specs.Fields.{version_of, name_of, names_in, names_of, size_of, is_field, has_only_fields, system_of, required, optional};
-ghost use Rattle.system_file.specs.Read.{read_of};
+ghost use Rattle.system_file.specs.Read.{system_of_file};
 
-use crate::name::{Name, Names};
+use crate::name::Name;
 use crate::system::{System, SystemRefusal};
+use item_list::Items;
 use outside_io::NAME_LIMIT;
 use std::alloc::Global;
 use toml::{Table, Value};
@@ -28,7 +29,7 @@ const MOST_MODULES: usize = 16;
 
 /// Reads the bytes of a system file.
 pub fn read_system(alloc: Global, bytes: &[u8]) -> Result<System, SystemRefusal>
-    ensures { Answers result (read_of bytes.now) }
+    ensures { ReadsSystem result (system_of_file bytes.now) }
 {
     match toml::table_from_slice(alloc, bytes) {
         Ok(table) => system(alloc, &table),
@@ -151,16 +152,16 @@ fn copied(alloc: Global, text: &str) -> Result<Name, SystemRefusal>
     }
 }
 
-fn modules(alloc: Global, value: Option<&Value>) -> Result<Names, SystemRefusal>
+fn modules(alloc: Global, value: Option<&Value>) -> Result<Items<Name>, SystemRefusal>
     ensures { Gives result (optional names_of [] (option_map (λ v. view v.now) value.entry)) }
 {
     match value {
-        None => Ok(Names::new(Vec::new(alloc))),
+        None => Ok(Items::empty(alloc)),
         Some(value) => names(alloc, value),
     }
 }
 
-fn names(alloc: Global, value: &Value) -> Result<Names, SystemRefusal>
+fn names(alloc: Global, value: &Value) -> Result<Items<Name>, SystemRefusal>
     ensures { Gives result (names_of (view value.now)) }
 {
     match value {
@@ -170,11 +171,11 @@ fn names(alloc: Global, value: &Value) -> Result<Names, SystemRefusal>
 }
 
 // The names of an array, which isn't too long.
-fn few_names(alloc: Global, values: &[Value]) -> Result<Names, SystemRefusal>
+fn few_names(alloc: Global, values: &[Value]) -> Result<Items<Name>, SystemRefusal>
     ensures { Gives result (names_of (array (items_view values.now))) }
 {
     let names = names_among(alloc, values)?;
-    if names.as_slice().len() <= MOST_MODULES {
+    if names.len() <= MOST_MODULES {
         Ok(names)
     } else {
         Err(SystemRefusal::Field)
@@ -182,17 +183,17 @@ fn few_names(alloc: Global, values: &[Value]) -> Result<Names, SystemRefusal>
 }
 
 // The names of an array, however long.
-fn names_among(alloc: Global, values: &[Value]) -> Result<Names, SystemRefusal>
+fn names_among(alloc: Global, values: &[Value]) -> Result<Items<Name>, SystemRefusal>
     ensures { Gives result (names_in (items_view values.now)) }
 {
-    let mut names = Vec::new(alloc);
+    let mut names = Items::empty(alloc);
     for value in values {
         let name = name(alloc, value)?;
         if names.push(name).is_err() {
             return Err(SystemRefusal::NoMemory);
         }
     }
-    Ok(Names::new(names))
+    Ok(names)
 }
 
 fn script(alloc: Global, value: Option<&Value>) -> Result<Option<Name>, SystemRefusal>

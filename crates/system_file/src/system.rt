@@ -1,6 +1,7 @@
 // What a system file holds, and why one isn't taken.
 
-use crate::name::{Name, Names};
+use crate::name::Name;
+use item_list::Items;
 
 /// What a system file holds. The sizes are in bytes.
 #[derive(Drop)]
@@ -14,7 +15,7 @@ pub struct System {
     /// The size of the real-time side of memory.
     pub real_time_memory: u32,
     /// The modules' files, which are numbered from 0 in this order.
-    pub modules: Names,
+    pub modules: Items<Name>,
     /// The script's file, if there is one.
     pub script: Option<Name>,
 }

@@ -4,7 +4,7 @@ use Rattle.std.specs.List.{position_or_len}
 use Rattle.std.proofs.lemmas.Bool.{and_parts}
 use Rattle.std.proofs.lemmas.List.{take_at, append-nil}
 use Rattle.line_text.specs.Cut.{is_space}
-use Rattle.trace_lines.specs.Words.{word_of, rest_of}
+use Rattle.trace_lines.specs.Words.{front_word, rest_of}
 
 -- a word has no space
 abbrev pub spaceless : List ℕ → Bool
@@ -35,8 +35,8 @@ drop_one_more : (a b : List ℕ) → drop (length a + 1) (a ++ b) ≡ drop 1 b
 drop_one_more [] b = refl
 drop_one_more (x ∷ xs) b = let next : suc (length xs) + 1 ≡ suc (length xs + 1) = omega arith in rw next (drop_one_more xs b)
 
-pub first_word : (word tail : List ℕ) → spaceless word ≡ true → AtSpace tail → word_of (word ++ tail) ≡ word
-unfolding word_of
+pub first_word : (word tail : List ℕ) → spaceless word ≡ true → AtSpace tail → front_word (word ++ tail) ≡ word
+unfolding front_word
 first_word word tail plain at = rw (place word tail plain at) (take_at word tail (length word) refl)
 
 pub behind_word : (word tail : List ℕ) → spaceless word ≡ true → AtSpace tail → rest_of (word ++ tail) ≡ drop 1 tail
@@ -44,7 +44,7 @@ unfolding rest_of
 behind_word word tail plain at = rw (place word tail plain at) (drop_one_more word tail)
 
 -- a word alone
-pub only_word : (word : List ℕ) → spaceless word ≡ true → word_of word ≡ word
+pub only_word : (word : List ℕ) → spaceless word ≡ true → front_word word ≡ word
 only_word word plain = let found = first_word word [] plain tt in rw (append-nil word) at found
 
 pub behind_only : (word : List ℕ) → spaceless word ≡ true → rest_of word ≡ []

@@ -12,13 +12,13 @@ use Rattle.line_kinds.specs.declared.kinds.Mode.{Mode}
 use Rattle.line_kinds.specs.declared.kinds.Mode.TheVariants.{Runs, Halted, Stopped}
 use Rattle.trace_lines.specs.Fits.{IsWho, IsBreach}
 use Rattle.trace_lines.specs.Text.{who_words, fault_word, mode_word, breach_words}
-use Rattle.trace_lines.specs.Words.{word_of, rest_of, numbered_in, who_in, after_who, fault_in, mode_in, plain_breach_in, breach_in}
+use Rattle.trace_lines.specs.Words.{front_word, rest_of, numbered_in, who_in, after_who, fault_in, mode_in, plain_breach_in, breach_in}
 use Rattle.trace_lines.proofs.Cutting.{AtSpace, spaceless, first_word, behind_word, only_word, behind_only}
 use Rattle.trace_lines.proofs.HexAgain.{word_again, doubleword_again}
 use Rattle.trace_lines.proofs.Numbers.{number_again, small_again, plain_decimal}
 
 -- a kind, a number and what is behind them
-number_word : (kind tail : List ℕ) (n : ℕ) → spaceless kind ≡ true → n < 2 ^ 8 → AtSpace tail → word_of (rest_of (kind ++ (32 ∷ (decimal n ++ tail)))) ≡ decimal n
+number_word : (kind tail : List ℕ) (n : ℕ) → spaceless kind ≡ true → n < 2 ^ 8 → AtSpace tail → front_word (rest_of (kind ++ (32 ∷ (decimal n ++ tail)))) ≡ decimal n
 number_word kind tail n plain small at =
     rw (behind_word kind (32 ∷ (decimal n ++ tail)) plain refl) (first_word (decimal n) tail (plain_decimal n (omega arith)) at)
 
@@ -26,7 +26,7 @@ behind_number : (kind tail : List ℕ) (n : ℕ) → spaceless kind ≡ true →
 behind_number kind tail n plain small at =
     rw (behind_word kind (32 ∷ (decimal n ++ tail)) plain refl) (behind_word (decimal n) tail (plain_decimal n (omega arith)) at)
 
-kind_word : (kind tail : List ℕ) (n : ℕ) → spaceless kind ≡ true → word_of (kind ++ (32 ∷ (decimal n ++ tail))) ≡ kind
+kind_word : (kind tail : List ℕ) (n : ℕ) → spaceless kind ≡ true → front_word (kind ++ (32 ∷ (decimal n ++ tail))) ≡ kind
 kind_word kind tail n plain = first_word kind (32 ∷ (decimal n ++ tail)) plain refl
 
 pub who_again : (who : Who) (tail : List ℕ) → IsWho who → AtSpace tail → who_in (who_words who ++ tail) ≡ Some who
@@ -67,7 +67,7 @@ plain_mode Stopped = refl
 
 -- a breach, by its first word and what is behind it
 abbrev Breaks : BreachKind → List ℕ → Type 0
-Breaks kind text = breach_in (word_of text) (rest_of text) ≡ Some kind
+Breaks kind text = breach_in (front_word text) (rest_of text) ≡ Some kind
 
 alone : (kind : BreachKind) (word : List ℕ) → spaceless word ≡ true → breach_in word [] ≡ Some kind → Breaks kind word
 alone kind word plain read = rw (only_word word plain, behind_only word plain) read
@@ -75,7 +75,7 @@ alone kind word plain read = rw (only_word word plain, behind_only word plain) r
 valued : (kind : BreachKind) (word value : List ℕ) → spaceless word ≡ true → breach_in word value ≡ Some kind → Breaks kind (word ++ (32 ∷ value))
 valued kind word value plain read = rw (first_word word (32 ∷ value) plain refl, behind_word word (32 ∷ value) plain refl) read
 
-pub breach_again : (kind : BreachKind) → IsBreach kind → breach_in (word_of (breach_words kind)) (rest_of (breach_words kind)) ≡ Some kind
+pub breach_again : (kind : BreachKind) → IsBreach kind → breach_in (front_word (breach_words kind)) (rest_of (breach_words kind)) ≡ Some kind
 unfolding breach_in plain_breach_in
 breach_again breach.Cli fits = alone breach.Cli (codes "cli") refl refl
 breach_again breach.Sti fits = alone breach.Sti (codes "sti") refl refl

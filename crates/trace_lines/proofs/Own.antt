@@ -8,13 +8,13 @@ use Rattle.line_kinds.specs.declared.kinds.Line.TheVariants.{R, G, H}
 use Rattle.trace_lines.specs.Fits.{IsLine}
 use Rattle.trace_lines.specs.Reading.{kind_in, words_read, own_text, line_in}
 use Rattle.trace_lines.specs.Text.{line_text, r_words, g_words, h_words}
-use Rattle.trace_lines.specs.Words.{word_of, rest_of}
+use Rattle.trace_lines.specs.Words.{front_word, rest_of}
 use Rattle.trace_lines.proofs.Cutting.{spaceless, first_word, behind_word}
 use Rattle.trace_lines.proofs.LinesAgain.{r_again, g_again, h_again}
 use Rattle.trace_lines.proofs.Numbers.{number_again, plain_decimal}
 
 -- a letter, a tick and words
-led : (letter words : List ℕ) (tick : ℕ) (line : Line) → spaceless letter ≡ true → tick < 2 ^ 32 → kind_in letter (word_of words) (rest_of words) ≡ Some line
+led : (letter words : List ℕ) (tick : ℕ) (line : Line) → spaceless letter ≡ true → tick < 2 ^ 32 → kind_in letter (front_word words) (rest_of words) ≡ Some line
     → words_read (letter ++ (32 ∷ (decimal tick ++ (32 ∷ words)))) ≡ Some (tick, line)
 unfolding words_read
 led letter words tick line plain small read =

@@ -2,7 +2,7 @@
 use Rattle.std.proofs.Common.{◌≡◌, ℕ, suc, ◌^◌, ◌<◌, List, [], ◌∷◌, ◌++◌, length, drop, Some, refl, arith, append_assoc, slice_index}
 use Rattle.line_text.specs.LineText.{hex_text}
 use Rattle.trace_lines.specs.Text.{spaced_words}
-use Rattle.trace_lines.specs.Words.{word_of, rest_of, words_in, after_four}
+use Rattle.trace_lines.specs.Words.{front_word, rest_of, words_in, after_four}
 use Rattle.trace_lines.proofs.Cutting.{AtSpace, first_word, behind_word}
 use Rattle.trace_lines.proofs.HexAgain.{doubleword_again, plain_hex}
 
@@ -11,7 +11,7 @@ pub at_words : (words tail : List ℕ) → AtSpace tail → AtSpace (spaced_word
 at_words [] tail at = at
 at_words (word ∷ words) tail at = refl
 
-one_word : (word : ℕ) (words tail : List ℕ) → AtSpace tail → word_of (drop 1 (spaced_words (word ∷ words) ++ tail)) ≡ hex_text 8 word
+one_word : (word : ℕ) (words tail : List ℕ) → AtSpace tail → front_word (drop 1 (spaced_words (word ∷ words) ++ tail)) ≡ hex_text 8 word
 one_word word words tail at =
     rw (append_assoc (hex_text 8 word) (spaced_words words) tail) (first_word (hex_text 8 word) (spaced_words words ++ tail) (plain_hex 8 word) (at_words words tail at))
 

@@ -9,11 +9,11 @@ use Rattle.line_kinds.specs.declared.kinds.HLine.TheVariants.{Edge, Ack, Set}
 use Rattle.line_kinds.specs.declared.kinds.Line.{Line}
 use Rattle.line_kinds.specs.declared.kinds.Line.TheVariants.{R, G, H}
 use Rattle.trace_lines.specs.Text.{line_text}
-use Rattle.trace_lines.specs.Words.{◌>>=◌, word_of, rest_of, number_in, byte_in, signed_in, bytes_in, digest_in, words_in, after_four, who_in, after_who, fault_in, mode_in, breach_in}
+use Rattle.trace_lines.specs.Words.{◌>>=◌, front_word, rest_of, number_in, byte_in, signed_in, bytes_in, digest_in, words_in, after_four, who_in, after_who, fault_in, mode_in, breach_in}
 
-unfoldable pub gate_in : List ℕ → Option RLine
-gate_in text = do
-  function ← number_in (word_of text)
+unfoldable pub gate_line_in : List ℕ → Option RLine
+gate_line_in text = do
+  function ← number_in (front_word text)
   registers ← words_in 4 (rest_of text)
   value ← signed_in (after_four (rest_of text))
   Some (r.Gate function registers value)
@@ -24,15 +24,15 @@ fault_line_in text = do
   kind ← fault_in (after_who text)
   Some (r.Fault who kind)
 
-unfoldable pub reply_in : List ℕ → Option RLine
-reply_in text = do
-  value ← signed_in (word_of text)
+unfoldable pub reply_line_in : List ℕ → Option RLine
+reply_line_in text = do
+  value ← signed_in (front_word text)
   bytes ← bytes_in (rest_of text)
   Some (r.Reply value bytes)
 
 unfoldable pub r_end_in : List ℕ → Option RLine
 r_end_in text = do
-  live ← number_in (word_of text)
+  live ← number_in (front_word text)
   ready ← number_in (rest_of text)
   Some (r.End live ready)
 
@@ -41,35 +41,35 @@ unfoldable pub r_line_in : List ℕ → List ℕ → Option RLine
 r_line_in word rest = if bytes_eq word (codes "com2") then option_map r.Com2 (byte_in rest)
     else if bytes_eq word (codes "release") then option_map r.Release (number_in rest)
     else if bytes_eq word (codes "on") then option_map r.On (who_in rest)
-    else if bytes_eq word (codes "gate") then gate_in rest
+    else if bytes_eq word (codes "gate") then gate_line_in rest
     else if bytes_eq word (codes "say") then option_map r.Say (bytes_in rest)
     else if bytes_eq word (codes "ret") then Some r.Ret
     else if bytes_eq word (codes "fault") then fault_line_in rest
-    else if bytes_eq word (codes "reply") then reply_in rest
+    else if bytes_eq word (codes "reply") then reply_line_in rest
     else if bytes_eq word (codes "end") then r_end_in rest
     else if bytes_eq word (codes "memory") then option_map r.Memory (digest_in rest)
     else None
 
-unfoldable pub put_in : List ℕ → Option GLine
-put_in text = do
-  fifo ← number_in (word_of text)
+unfoldable pub put_line_in : List ℕ → Option GLine
+put_line_in text = do
+  fifo ← number_in (front_word text)
   bytes ← bytes_in (rest_of text)
   Some (g.Put fifo bytes)
 
-unfoldable pub get_in : List ℕ → Option GLine
-get_in text = do
-  fifo ← number_in (word_of text)
+unfoldable pub get_line_in : List ℕ → Option GLine
+get_line_in text = do
+  fifo ← number_in (front_word text)
   count ← number_in (rest_of text)
   Some (g.Get fifo count)
 
 unfoldable pub g_end_in : List ℕ → Option GLine
 g_end_in text = do
-  mode ← mode_in (word_of text)
+  mode ← mode_in (front_word text)
   registers ← words_in 10 (rest_of text)
   Some (g.End mode registers)
 
 unfoldable pub breach_line_in : List ℕ → Option GLine
-breach_line_in text = option_map g.Breach (breach_in (word_of text) (rest_of text))
+breach_line_in text = option_map g.Breach (breach_in (front_word text) (rest_of text))
 
 -- a G line, by its first word
 unfoldable pub g_line_in : List ℕ → List ℕ → Option GLine
@@ -77,8 +77,8 @@ g_line_in word rest = if bytes_eq word (codes "com1") then option_map g.Com1 (by
     else if bytes_eq word (codes "enter") then option_map g.Enter (number_in rest)
     else if bytes_eq word (codes "int") then option_map g.Int (number_in rest)
     else if bytes_eq word (codes "halt") then Some g.Halt
-    else if bytes_eq word (codes "put") then put_in rest
-    else if bytes_eq word (codes "get") then get_in rest
+    else if bytes_eq word (codes "put") then put_line_in rest
+    else if bytes_eq word (codes "get") then get_line_in rest
     else if bytes_eq word (codes "shutdown") then option_map g.Shutdown (number_in rest)
     else if bytes_eq word (codes "breach") then breach_line_in rest
     else if bytes_eq word (codes "end") then g_end_in rest
@@ -102,8 +102,8 @@ kind_in letter word rest = if bytes_eq letter (codes "R") then option_map R (r_l
 -- what the words of a text stand for
 unfoldable pub words_read : List ℕ → Option (ℕ × Line)
 words_read text = do
-  tick ← number_in (word_of (rest_of text))
-  line ← kind_in (word_of text) (word_of (rest_of (rest_of text))) (rest_of (rest_of (rest_of text)))
+  tick ← number_in (front_word (rest_of text))
+  line ← kind_in (front_word text) (front_word (rest_of (rest_of text))) (rest_of (rest_of (rest_of text)))
   Some (tick, line)
 
 -- a tick and a line, where the text is theirs

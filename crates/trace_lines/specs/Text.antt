@@ -87,17 +87,17 @@ h_words (Ack line) = codes "ack " ++ decimal line
 h_words (Set count) = codes "set " ++ decimal count
 
 -- a line without its end
-abbrev pub line_of : List ℕ → ℕ → List ℕ → List ℕ
-line_of letter tick words = letter ++ (decimal tick ++ (32 ∷ words))
+abbrev pub whole_line : List ℕ → ℕ → List ℕ → List ℕ
+whole_line letter tick words = letter ++ (decimal tick ++ (32 ∷ words))
 
 abbrev pub r_text : ℕ → RLine → List ℕ
-r_text tick line = line_of (codes "R ") tick (r_words line)
+r_text tick line = whole_line (codes "R ") tick (r_words line)
 
 abbrev pub g_text : ℕ → GLine → List ℕ
-g_text tick line = line_of (codes "G ") tick (g_words line)
+g_text tick line = whole_line (codes "G ") tick (g_words line)
 
 abbrev pub h_text : ℕ → HLine → List ℕ
-h_text tick line = line_of (codes "H ") tick (h_words line)
+h_text tick line = whole_line (codes "H ") tick (h_words line)
 
 abbrev pub line_text : ℕ → Line → List ℕ
 line_text tick (R line) = r_text tick line

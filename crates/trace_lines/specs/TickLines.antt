@@ -9,8 +9,8 @@ pub record TickLines : Type 0 where
   pub g : List GLine
   pub h : List HLine
 
-abbrev pub no_lines : TickLines
-no_lines = record { r = []; g = []; h = [] }
+abbrev pub no_tick_lines : TickLines
+no_tick_lines = record { r = []; g = []; h = [] }
 
 -- a list of at most so many, with the room for them
 pub record HasRoom (most len capacity : ℕ) : Type 0 where

@@ -20,22 +20,22 @@ abbrev pub ◌>>=◌ : {A B : Type 0} → Option A → (A → Option B) → Opti
 o >>= f = option_and_then f o
 
 -- the first word, and what is behind the space after it
-unfoldable pub word_of : List ℕ → List ℕ
-word_of text = before_first is_space text
+unfoldable pub front_word : List ℕ → List ℕ
+front_word text = before_first is_space text
 
 unfoldable pub rest_of : List ℕ → List ℕ
 rest_of text = after_first is_space text
 
-abbrev pub below : ℕ → Option ℕ → Option ℕ
-below limit None = None
-below limit (Some n) = if nat_lt n limit then Some n else None
+abbrev pub if_below : ℕ → Option ℕ → Option ℕ
+if_below limit None = None
+if_below limit (Some n) = if nat_lt n limit then Some n else None
 
 -- decimal numbers of 32 and of 8 bits
 unfoldable pub number_in : List ℕ → Option ℕ
-number_in text = below (2 ^ 32) (decimal_in text)
+number_in text = if_below (2 ^ 32) (decimal_in text)
 
 unfoldable pub small_in : List ℕ → Option ℕ
-small_in text = below (2 ^ 8) (decimal_in text)
+small_in text = if_below (2 ^ 8) (decimal_in text)
 
 -- two, four and eight hexadecimal digits
 unfoldable pub byte_in : List ℕ → Option ℕ
@@ -69,7 +69,7 @@ digest_in text = result_ok (decode_sized text 32)
 unfoldable pub words_in : ℕ → List ℕ → Option (List ℕ)
 words_in zero text = Some []
 words_in (suc n) text = do
-  word ← doubleword_in (word_of text)
+  word ← doubleword_in (front_word text)
   words ← words_in n (rest_of text)
   Some (word ∷ words)
 
@@ -85,10 +85,10 @@ numbered_in kind number = if bytes_eq kind (codes "thread") then option_map Thre
 
 -- who stands first, in one word or two, and what is behind
 unfoldable pub who_in : List ℕ → Option Who
-who_in text = if bytes_eq (word_of text) (codes "guest") then Some Guest else numbered_in (word_of text) (word_of (rest_of text))
+who_in text = if bytes_eq (front_word text) (codes "guest") then Some Guest else numbered_in (front_word text) (front_word (rest_of text))
 
 unfoldable pub after_who : List ℕ → List ℕ
-after_who text = if bytes_eq (word_of text) (codes "guest") then rest_of text else rest_of (rest_of text)
+after_who text = if bytes_eq (front_word text) (codes "guest") then rest_of text else rest_of (rest_of text)
 
 unfoldable pub fault_in : List ℕ → Option FaultKind
 fault_in word = if bytes_eq word (codes "divide") then Some fault.Divide

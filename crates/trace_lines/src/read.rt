@@ -3,7 +3,7 @@ ghost use Rattle.std.specs.Prelude.{◌≡◌, ◌≢◌, ◌<◌, ◌^◌, ◌�
 ghost use Rattle.trace_lines.specs.Fits.{IsGLine, IsHLine, IsLine, IsRLine};
 ghost use Rattle.line_kinds.specs.declared.kinds.Line.{Line};
 ghost use Rattle.trace_lines.specs.Text.{line_text};
-ghost use Rattle.trace_lines.specs.Reading.{gate_in, fault_line_in, reply_in, r_end_in, r_line_in, put_in, get_in, g_end_in, breach_line_in, g_line_in, h_line_in, kind_in, words_read, line_in};
+ghost use Rattle.trace_lines.specs.Reading.{gate_line_in, fault_line_in, reply_line_in, r_end_in, r_line_in, put_line_in, get_line_in, g_end_in, breach_line_in, g_line_in, h_line_in, kind_in, words_read, line_in};
 
 use crate::words::{
     behind_four, behind_who, breach, byte, bytes, cut, digest, fault_kind, four_words, mode,
@@ -12,9 +12,9 @@ use crate::words::{
 use crate::{GLine, HLine, Line, RLine, write_g, write_h, write_r};
 use line_text::LineText;
 
-#[tactic(auto, unfolding(crate::specs::Reading::gate_in))]
+#[tactic(auto, unfolding(crate::specs::Reading::gate_line_in))]
 fn gate(text: &[u8]) -> Option<RLine>
-    ensures value { result ≡ gate_in text.now }
+    ensures value { result ≡ gate_line_in text.now }
     ensures fits { IfSome result IsRLine }
 {
     let (function, rest) = cut(text);
@@ -34,9 +34,9 @@ fn fault_line(text: &[u8]) -> Option<RLine>
     Some(RLine::Fault(who, kind))
 }
 
-#[tactic(auto, unfolding(crate::specs::Reading::reply_in))]
+#[tactic(auto, unfolding(crate::specs::Reading::reply_line_in))]
 fn reply(text: &[u8]) -> Option<RLine>
-    ensures value { result ≡ reply_in text.now }
+    ensures value { result ≡ reply_line_in text.now }
     ensures fits { IfSome result IsRLine }
 {
     let (value, rest) = cut(text);
@@ -86,9 +86,9 @@ fn r_line(word: &[u8], rest: &[u8]) -> Option<RLine>
     }
 }
 
-#[tactic(auto, unfolding(crate::specs::Reading::put_in))]
+#[tactic(auto, unfolding(crate::specs::Reading::put_line_in))]
 fn put(text: &[u8]) -> Option<GLine>
-    ensures value { result ≡ put_in text.now }
+    ensures value { result ≡ put_line_in text.now }
     ensures fits { IfSome result IsGLine }
 {
     let (fifo, rest) = cut(text);
@@ -97,9 +97,9 @@ fn put(text: &[u8]) -> Option<GLine>
     Some(GLine::Put(fifo, said))
 }
 
-#[tactic(auto, unfolding(crate::specs::Reading::get_in))]
+#[tactic(auto, unfolding(crate::specs::Reading::get_line_in))]
 fn get(text: &[u8]) -> Option<GLine>
-    ensures value { result ≡ get_in text.now }
+    ensures value { result ≡ get_line_in text.now }
     ensures fits { IfSome result IsGLine }
 {
     let (fifo, count) = cut(text);

@@ -1,6 +1,6 @@
 // The lines of one tick.
 ghost use Rattle.std.specs.Prelude.{◌≡◌, ◌<◌, ◌++◌, ◌∷◌, [], length, IfOk};
-ghost use Rattle.trace_lines.specs.TickLines.{no_lines};
+ghost use Rattle.trace_lines.specs.TickLines.{no_tick_lines};
 
 use crate::{GLine, HLine, RLine};
 use outside_io::NoMemory;
@@ -38,7 +38,7 @@ impl Model for Lines {
 impl Lines {
     /// No lines, and the room for those of a tick.
     pub fn new(alloc: Global) -> Result<Lines, NoMemory>
-        ensures { IfOk result (λ lines. lines ≡ no_lines) }
+        ensures { IfOk result (λ lines. lines ≡ no_tick_lines) }
     {
         match (
             Vec::with_capacity(alloc, R_ROOM),
@@ -56,7 +56,7 @@ impl Lines {
 
     /// Empties all three lists.
     pub fn clear(&mut self)
-        ensures { self.new ≡ no_lines }
+        ensures { self.new ≡ no_tick_lines }
     {
         self.r_lines.clear();
         self.g_lines.clear();

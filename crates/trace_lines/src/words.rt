@@ -1,7 +1,7 @@
 // The words of a line, read back.
 ghost use Rattle.std.specs.Prelude.{◌≡◌, length, IfSome};
 ghost use Rattle.trace_lines.specs.Fits.{AreSaid, IsBreach, IsDigest, IsWho};
-ghost use Rattle.trace_lines.specs.Words.{negative_of, positive_of, word_of, rest_of, number_in, small_in, byte_in, word_in, doubleword_in, signed_in, bytes_in, digest_in, words_in, after_four, numbered_in, who_in, after_who, fault_in, mode_in, plain_breach_in, breach_in};
+ghost use Rattle.trace_lines.specs.Words.{negative_of, positive_of, front_word, rest_of, number_in, small_in, byte_in, word_in, doubleword_in, signed_in, bytes_in, digest_in, words_in, after_four, numbered_in, who_in, after_who, fault_in, mode_in, plain_breach_in, breach_in};
 ghost use Rattle.trace_lines.specs.Filled.{Fills};
 
 use crate::{BreachKind, FaultKind, Mode, Said, Who};
@@ -15,9 +15,9 @@ const MOST_BYTES: usize = 256;
 const LEAST: u32 = 0x8000_0000;
 
 // The first word, and what is behind the space after it.
-#[tactic(auto, unfolding(crate::specs::Words::word_of, crate::specs::Words::rest_of))]
+#[tactic(auto, unfolding(crate::specs::Words::front_word, crate::specs::Words::rest_of))]
 pub(crate) fn cut(text: &[u8]) -> (&[u8], &[u8])
-    ensures word { result.0.now ≡ word_of text.now }
+    ensures word { result.0.now ≡ front_word text.now }
     ensures rest { result.1.now ≡ rest_of text.now }
 {
     line_text::cut(text, b' ')
