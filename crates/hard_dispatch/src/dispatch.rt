@@ -61,7 +61,8 @@ fn give(line: u8, irqs: &mut Irqs, guest: u16) -> u16
         irqs.mark(line);
         return guest;
     }
-    if line == COM2_LINE {
+    let is_nobodys = line == COM2_LINE;
+    if is_nobodys {
         guest
     } else {
         with_line16(guest, line)

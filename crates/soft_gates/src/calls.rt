@@ -3,7 +3,7 @@ ghost use Rattle.std.specs.Prelude.{◌≡◌, ◌≤◌, ◌<◌, ◌+◌, ◌+
 ghost use Rattle.memory_model.specs.Side.{bytes_at, covers, first_outside, stored};
 ghost use Rattle.rt_constants.specs.declared.limits.TheConstants.{BYTES_LIMIT};
 ghost use Rattle.flat_memory.specs.Side.{side_at, side_of};
-ghost use Rattle.soft_gates.specs.Calls.{call_of, place_of, replied, TakesReply};
+ghost use Rattle.soft_gates.specs.Calls.{call_of, place_of, replied, with_result, TakesReply};
 
 use cpu_state::{EAX, Registers};
 use flat_memory::{Side, fits};
@@ -113,6 +113,13 @@ fn store_bytes(side: &mut Side<'_>, at: u32, bytes: &[u8])
     }
 }
 
+// A call's result, as EAX has it.
+fn leave_result(answer: i32, regs: &mut Registers)
+    ensures { regs.new ≡ with_result answer regs.old }
+{
+    regs.general[EAX] = answer.cast_unsigned();
+}
+
 /// The reply to a call: its result is left in EAX, and the bytes of a get are stored at its place.
 pub fn reply(call: &Call, answer: i32, bytes: &[u8], regs: &mut Registers, side: &mut Side<'_>)
     requires { TakesReply (side_of side.old) (length bytes.now) call.now }
@@ -121,7 +128,7 @@ pub fn reply(call: &Call, answer: i32, bytes: &[u8], regs: &mut Registers, side:
     ensures first { side.new.first ≡ side.old.first }
     ensures same_loan { side.new.bytes.ghost_name ≡ side.old.bytes.ghost_name }
 {
-    regs.general[EAX] = answer.cast_unsigned();
+    leave_result(answer, regs);
     if let Call::Get(get) = call {
         store_bytes(side, get.place, bytes);
     }
