@@ -26,7 +26,7 @@ use Rattle.priority_schedule.specs.State.{RealTime, RealTimeStart}
 use Rattle.priority_schedule.specs.Tick.{begun, devices, opened, real_time_tick}
 use Rattle.priority_schedule.specs.Unit.{unit_of}
 use Rattle.rt_constants.specs.declared.limits.TheConstants.{THREADS_LIMIT}
-use Rattle.hardware_lines.specs.Hardware.{Hardware, Machines, devices_of, chosen_of, device_step, drain_step, guest_due, hardware, hardware_after, machines_after, marking}
+use Rattle.hardware_lines.specs.Hardware.{Hardware, Machines, devices_of, chosen_of, edge_step, drain_step, guest_due, hardware, hardware_after, machines_after, marking}
 use Rattle.hardware_lines.specs.Timely.{IsTimely}
 use Rattle.run_output.specs.Halves.{found, real_time_in, guest_in, hardware_in}
 use Rattle.schedule_laws.specs.Output.{run_lines, run_output}
@@ -128,7 +128,7 @@ NoneReleased t events m = (draining : Bool) → let s = devices events (begun m)
 
 -- the hardware after a device step
 abbrev pub stepped_from : ℕ → List Event → Machines → Hardware → Hardware
-stepped_from t events m h = (device_step t events m (devices_of events m) (record { hardware = h; lines = [] })).hardware
+stepped_from t events m h = (edge_step t events m (devices_of events m) (record { hardware = h; lines = [] })).hardware
 
 pub record StepTimely (k : ℕ) (events : List Event) (before after : Machines) (h : Hardware) : Type 0 where
   pub devices : IsTimely (suc k) (suc k) (stepped_from (suc k) events before h) before
@@ -145,7 +145,7 @@ TickTimely =
 
 abbrev pub drained_from : ℕ → List Event → Machines → Hardware → Hardware
 drained_from t events m h =
-    (drain_step t true (chosen_of t events m) (device_step t events m (devices_of events m) (record { hardware = h; lines = [] }))).hardware
+    (drain_step t true (chosen_of t events m) (edge_step t events m (devices_of events m) (record { hardware = h; lines = [] }))).hardware
 
 pub record IsDrained (t : ℕ) (h : Hardware) (m : Machines) : Type 0 where
   pub emptied : h.latch ≡ 0
