@@ -19,13 +19,14 @@ use Rattle.line_kinds.specs.declared.kinds.RLine.{RLine}
 use Rattle.device_script.specs.Events.{lines_of}
 use Rattle.line_kinds.specs.Calls.{Call}
 use Rattle.run_lines.specs.Ticks.{at_tick, lines_to}
-use Rattle.bare_machine.specs.State.{Bare, GuestStart}
+use Rattle.bare_machine.specs.State.{Bare}
 use Rattle.bare_machine.specs.Run.{bare_after}
 use Rattle.bare_machine.specs.Tick.{after_devices as bare_devices}
 use Rattle.rt_timeline.specs.Dues.{earlier_due, time_of, ticks_until, count_until}
+use Rattle.hardware_lines.specs.RunStart.{RunStart}
 use Rattle.priority_schedule.specs.Release.{nearest, drains}
 use Rattle.priority_schedule.specs.Run.{real_after}
-use Rattle.priority_schedule.specs.State.{RealTime, RealTimeStart}
+use Rattle.priority_schedule.specs.State.{RealTime}
 use Rattle.priority_schedule.specs.Tick.{opened, after_devices as real_devices}
 
 -- the set of latched lines; the tick in which the one-shot rises, if it does; and the last tick in which line 0 was acknowledged, or 0
@@ -174,22 +175,22 @@ marking t events before after h = hardware_tick t events before (devices_of even
 -- A run
 
 -- both machines after n ticks
-unfoldable pub machines_after : GuestStart → RealTimeStart → List (ℕ × Event) → List (ℕ × RLine) → List (ℕ × Call) → ℕ → Machines
-machines_after guest start script r calls n =
-    record { bare = bare_after guest script r n; real = real_after start script calls n }
+unfoldable pub machines_after : RunStart → List (ℕ × RLine) → List (ℕ × Call) → ℕ → Machines
+machines_after start r calls n =
+    record { bare = bare_after start.guest start.script r n; real = real_after start.real start.script calls n }
 
-unfoldable pub hardware_after : GuestStart → RealTimeStart → List (ℕ × Event) → List (ℕ × RLine) → List (ℕ × Call) → ℕ → Hardware
-hardware_after guest start script r calls zero = first_hardware
-hardware_after guest start script r calls (suc n) =
-    (marking (suc n) (at_tick (suc n) script) (machines_after guest start script r calls n) (machines_after guest start script r calls (suc n))
-    (hardware_after guest start script r calls n)).hardware
+unfoldable pub hardware_after : RunStart → List (ℕ × RLine) → List (ℕ × Call) → ℕ → Hardware
+hardware_after start r calls zero = first_hardware
+hardware_after start r calls (suc n) =
+    (marking (suc n) (at_tick (suc n) start.script) (machines_after start r calls n) (machines_after start r calls (suc n))
+    (hardware_after start r calls n)).hardware
 
 -- the lines of the tick after n ticks
-unfoldable pub hardware_lines : GuestStart → RealTimeStart → List (ℕ × Event) → List (ℕ × RLine) → List (ℕ × Call) → ℕ → List HLine
-hardware_lines guest start script r calls n =
-    (marking (suc n) (at_tick (suc n) script) (machines_after guest start script r calls n) (machines_after guest start script r calls (suc n))
-    (hardware_after guest start script r calls n)).lines
+unfoldable pub hardware_lines : RunStart → List (ℕ × RLine) → List (ℕ × Call) → ℕ → List HLine
+hardware_lines start r calls n =
+    (marking (suc n) (at_tick (suc n) start.script) (machines_after start r calls n) (machines_after start r calls (suc n))
+    (hardware_after start r calls n)).lines
 
 -- the lines of ticks 1 to n. There are no end lines
-abbrev pub hardware : GuestStart → RealTimeStart → List (ℕ × Event) → ℕ → List (ℕ × RLine) → List (ℕ × Call) → List (ℕ × HLine)
-hardware guest start script n r calls = lines_to (hardware_lines guest start script r calls) n
+abbrev pub hardware : RunStart → ℕ → List (ℕ × RLine) → List (ℕ × Call) → List (ℕ × HLine)
+hardware start n r calls = lines_to (hardware_lines start r calls) n

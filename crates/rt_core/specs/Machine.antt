@@ -1,5 +1,5 @@
 -- What a machine holds, and the bare machine that it stands for.
-use Rattle.std.specs.Prelude.{ℕ, Option, Some, None, List, [], length}
+use Rattle.std.specs.Prelude.{ℕ, Option, List, [], length}
 use Rattle.cpu_state.specs.declared.registers.Registers.{Registers}
 use Rattle.memory_model.specs.Side.{Side}
 use Rattle.flat_memory.specs.Parts.{Parts}

@@ -6,7 +6,7 @@ use Rattle.std.proofs.lemmas.Bool.{cases_Bool}
 use Rattle.std.proofs.Math.Nat.{div-lt_iff_lt-mul}
 use Rattle.rt_threads.specs.Threads.{due_at}
 use Rattle.priority_schedule.proofs.Released.{all_released}
-use Rattle.bare_machine.specs.State.{GuestStart, first_state as first_bare}
+use Rattle.bare_machine.specs.State.{first_state as first_bare}
 use Rattle.bare_machine.specs.Run.{bare_after}
 use Rattle.rt_timeline.specs.Dues.{earlier_due, time_of, ticks_until, come}
 use Rattle.hardware_lines.specs.Hardware.{Hardware, Marking, Machines, latched, with_edges, with_if, both_rose, guest_due, next_due, with_set, rises_at, device_edges, edge_step, drain_step, changes_owner, first_acknowledged, unit_step, same_due, timer_step, machines_after, devices_of, chosen_of, marking, hardware_after, rising_order}
@@ -20,7 +20,7 @@ use Rattle.hardware_lines.specs.Timely.{Ahead, Timely, IsTimely}
 use Rattle.rt_constants.specs.declared.limits.TheConstants.{THREADS_LIMIT}
 use Rattle.rt_timeline.specs.declared.timeline.ThreadDue.{ThreadDue}
 use Rattle.priority_schedule.specs.Release.{Ticking, nearest, while_one, released, drained, drains}
-use Rattle.priority_schedule.specs.State.{RealTime, RealTimeStart, first_state as first_real}
+use Rattle.priority_schedule.specs.State.{RealTime, first_state as first_real}
 use Rattle.priority_schedule.specs.Run.{real_after}
 use Rattle.priority_schedule.specs.Tick.{begun, devices, is_on, started, turned_to, picked, opened}
 use Rattle.line_kinds.specs.Calls.{Call}
@@ -32,6 +32,7 @@ use Rattle.line_kinds.specs.declared.kinds.HLine.TheVariants.{Ack}
 use Rattle.line_kinds.specs.declared.kinds.RLine.{RLine}
 use Rattle.line_kinds.specs.declared.kinds.RLine.TheVariants.{On}
 use Rattle.line_kinds.specs.declared.kinds.Who.{Who}
+use Rattle.hardware_lines.specs.RunStart.{RunStart}
 use Rattle.line_kinds.specs.declared.kinds.Who.TheVariants.{Guest, Thread, Init, Irq, Fifo}
 
 timely_stands : (rise : Option ℕ) (t : ℕ) (near : Option ℕ) → Timely true rise t near
@@ -394,28 +395,28 @@ drained_calm k events before h s few open_ =
 
 -- a run
 
-module _ (guest : GuestStart) (start : RealTimeStart) (script : List (ℕ × Event)) (r : List (ℕ × RLine)) (calls : List (ℕ × Call)) where
-  served_first : Served 0 (hardware_after guest start script r calls 0) (machines_after guest start script r calls 0)
+module _ (start : RunStart) (r : List (ℕ × RLine)) (calls : List (ℕ × Call)) where
+  served_first : Served 0 (hardware_after start r calls 0) (machines_after start r calls 0)
   unfolding hardware_after machines_after first_bare first_real bare_after real_after nearest
   served_first = record { ahead = tt; timely = tt }
 
-  pub run_served : (k : ℕ) → Served k (hardware_after guest start script r calls k) (machines_after guest start script r calls k)
+  pub run_served : (k : ℕ) → Served k (hardware_after start r calls k) (machines_after start r calls k)
   unfolding hardware_after
   run_served zero = served_first
-  run_served (suc k) = tick_served k (at_tick (suc k) script) (machines_after guest start script r calls k) (machines_after guest start script r calls (suc k)) (hardware_after guest start script r calls k) (run_served k)
+  run_served (suc k) = tick_served k (at_tick (suc k) start.script) (machines_after start r calls k) (machines_after start r calls (suc k)) (hardware_after start r calls k) (run_served k)
 
   -- after the device step of the tick after k ticks
-  pub run_stepped : (k : ℕ) → Stepped (suc k) (stepped_after guest start script r calls k) (machines_after guest start script r calls k)
+  pub run_stepped : (k : ℕ) → Stepped (suc k) (stepped_after start r calls k) (machines_after start r calls k)
   run_stepped k =
-      let events = at_tick (suc k) script in
-      let m = machines_after guest start script r calls k in
-      after_device k events m (devices_of events m) (hardware_after guest start script r calls k) [] (run_served k)
+      let events = at_tick (suc k) start.script in
+      let m = machines_after start r calls k in
+      after_device k events m (devices_of events m) (hardware_after start r calls k) [] (run_served k)
 
-  pub run_calm : (k : ℕ) → has (stepped_after guest start script r calls k).latch 0 ≡ false → NothingDue guest start script r calls k
+  pub run_calm : (k : ℕ) → has (stepped_after start r calls k).latch 0 ≡ false → NothingDue start r calls k
   run_calm k e =
-      let events = at_tick (suc k) script in
-      let m = machines_after guest start script r calls k in
-      let h = stepped_after guest start script r calls k in
+      let events = at_tick (suc k) start.script in
+      let m = machines_after start r calls k in
+      let h = stepped_after start r calls k in
       let none = none_come (suc k) h m (run_stepped k) e in
       record {
         calm = calm_at (suc k) h m (run_stepped k) e;
