@@ -30,7 +30,7 @@ use Rattle.line_kinds.specs.declared.kinds.Mode.TheVariants.{Runs, Halted, Stopp
 use Rattle.line_sets.specs.LineSet.{with_line, without_line}
 use Rattle.pending_irqs.specs.Pending.{lowest_enabled}
 use Rattle.port_map.specs.Serial.{Serial, rose}
-use Rattle.port_map.specs.declared.owner.Owner.TheVariants.{Guest}
+use Rattle.port_map.specs.declared.com_port.ComPort.TheVariants.{Com1}
 use Rattle.breach_monitor.specs.SerialUnit.{unit_at}
 use Rattle.run_lines.specs.Says.{Answer}
 use Rattle.bare_machine.specs.State.{Bare, UnitOutcome, Done, Calls, is_stopped, is_halted}
@@ -110,7 +110,7 @@ instruction_outcome t e b (Breaches breach) = breached (breach_kind breach) b
 
 abbrev pub instruction : ℕ → Bare → UnitOutcome
 instruction t b =
-    let e = unit_at Guest b.registers b.side b.com1 in
+    let e = unit_at Com1 b.registers b.side b.com1 in
     instruction_outcome t e b (answer_to b.registers.eip (address_behind b.registers b.side) e.answer)
 
 -- the lowest line that is asked and enabled, where it may be entered: the flag is set, and no shadow stands

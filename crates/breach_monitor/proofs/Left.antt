@@ -1,11 +1,11 @@
--- What an access leaves of the board but for the owner's serial port.
+-- What an access leaves of the board but for the serial port.
 use Rattle.std.proofs.Common.{◌≡◌, ℕ, ◌+◌, ◌*◌, ◌<◌, Bool, true, false, refl, sym, ap, subst, ◌∙◌, inl, inr}
 use Rattle.std.specs.Prelude.{Option, Some, None}
 use Rattle.pit_8254.specs.Counter.{full_count, out_of}
 use Rattle.pit_8254.specs.declared.counter.Mode.TheVariants.{TerminalCount}
-use Rattle.port_map.specs.declared.owner.Owner.{Owner}
-use Rattle.port_map.specs.declared.owner.Owner.TheVariants.{Guest, RealTime}
-use Rattle.port_map.specs.Owner.{line_of_owner}
+use Rattle.port_map.specs.declared.com_port.ComPort.{ComPort}
+use Rattle.port_map.specs.declared.com_port.ComPort.TheVariants.{Com1, Com2}
+use Rattle.port_map.specs.ComPort.{interrupt_line}
 use Rattle.port_map.specs.Serial.{Serial, rose}
 use Rattle.port_board.specs.Board.{serial_of, with_serial, rises_at_once}
 use Rattle.port_board.specs.OneShot.{OneShot}
@@ -30,11 +30,11 @@ same_shot b after e h None (inr r) = inr (record {
   high = h ∙ r.high;
 })
 
-left : (owner : Owner) (r : Bool) (s : Serial) (b : Board) → rose (serial_of owner b) s ≡ r → LeavesOthers owner s b (rises_at_once r (line_of_owner owner) (with_serial owner s b))
-left Guest true s b e = record { serial = refl; timer = refl; one_shot = same_shot b _ refl refl; pair = rw e refl; lines = rw e refl }
-left Guest false s b e = record { serial = refl; timer = refl; one_shot = same_shot b _ refl refl; pair = rw e refl; lines = rw e refl }
-left RealTime true s b e = record { serial = refl; timer = refl; one_shot = same_shot b _ refl refl; pair = rw e refl; lines = rw e refl }
-left RealTime false s b e = record { serial = refl; timer = refl; one_shot = same_shot b _ refl refl; pair = rw e refl; lines = rw e refl }
+left : (which : ComPort) (r : Bool) (s : Serial) (b : Board) → rose (serial_of which b) s ≡ r → LeavesOthers which s b (rises_at_once r (interrupt_line which) (with_serial which s b))
+left Com1 true s b e = record { serial = refl; timer = refl; one_shot = same_shot b _ refl refl; pair = rw e refl; lines = rw e refl }
+left Com1 false s b e = record { serial = refl; timer = refl; one_shot = same_shot b _ refl refl; pair = rw e refl; lines = rw e refl }
+left Com2 true s b e = record { serial = refl; timer = refl; one_shot = same_shot b _ refl refl; pair = rw e refl; lines = rw e refl }
+left Com2 false s b e = record { serial = refl; timer = refl; one_shot = same_shot b _ refl refl; pair = rw e refl; lines = rw e refl }
 
-pub access_leaves_others : (owner : Owner) → AccessLeavesOthers owner
-access_leaves_others owner s b = left owner (rose (serial_of owner b) s) s b refl
+pub access_leaves_others : (which : ComPort) → AccessLeavesOthers which
+access_leaves_others which s b = left which (rose (serial_of which b) s) s b refl

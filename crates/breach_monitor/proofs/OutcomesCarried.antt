@@ -10,7 +10,7 @@ use Rattle.i386_execute.specs.Unit.{unit}
 use Rattle.i386_effects.specs.declared.stepped.Stepped.{Stepped}
 use Rattle.i386_effects.specs.declared.stepped.Stepped.TheVariants.{Next, Trap, Interrupt, Privileged, Outside, Port}
 use Rattle.breach_monitor.specs.Laws.{with_devices, effect_with}
-use Rattle.breach_monitor.specs.RealTimeUnit.{performed_or_outside, on_flag, privileged_use, outcome_of_stepped, real_time}
+use Rattle.breach_monitor.specs.RealTimeUnit.{performed_or_outside, on_flag, privileged_use, outcome_of_stepped, real_time_outcome}
 use Rattle.breach_monitor.proofs.Carried.{Carries, unit_carried, flag_unit_carried}
 
 performed_or_outside_carried : {D E : Type 0} (g : E → D) (regs : Registers) (st : State E) (stepped : Stepped) (e : Effect E)
@@ -47,8 +47,8 @@ outcome_of_stepped_carried g p q regs st (Outside access at) e k = refl
 outcome_of_stepped_carried g p q regs st (Port port) e k = refl
 
 pub real_time_carried : {D E : Type 0} (g : E → D) (p : Ports D) (q : Ports E) (regs : Registers) (st : State E)
-    → Carries g p q st.devices → real_time p regs (with_devices g st) ≡ effect_with g (real_time q regs st)
-unfolding real_time
+    → Carries g p q st.devices → real_time_outcome p regs (with_devices g st) ≡ effect_with g (real_time_outcome q regs st)
+unfolding real_time_outcome
 real_time_carried g p q regs st k =
     let e = unit q regs st in
     ap (λ e. outcome_of_stepped p regs (with_devices g st) e.answer e) (unit_carried g p q regs st k) ∙ outcome_of_stepped_carried g p q regs st e.answer e k

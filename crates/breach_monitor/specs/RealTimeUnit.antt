@@ -63,5 +63,5 @@ outcome_of_stepped ports regs st (Uses kind n) e = privileged_use ports kind n r
 outcome_of_stepped ports regs st (Outside access at) e = faulted Memory regs st
 outcome_of_stepped ports regs st (OwnedPort port) e = faulted Port regs st
 
-unfoldable pub real_time : {D : Type 0} → Ports D → Registers → State D → Outcome D
-real_time ports regs st = let e = unit ports regs st in outcome_of_stepped ports regs st e.answer e
+unfoldable pub real_time_outcome : {D : Type 0} → Ports D → Registers → State D → Outcome D
+real_time_outcome ports regs st = let e = unit ports regs st in outcome_of_stepped ports regs st e.answer e

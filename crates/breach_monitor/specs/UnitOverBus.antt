@@ -10,7 +10,7 @@ use Rattle.port_board.specs.declared.board.Board.{Board}
 use Rattle.port_map.specs.declared.owner.Owner.TheVariants.{Guest, RealTime}
 use Rattle.breach_monitor.specs.Bus.{bus_state}
 use Rattle.breach_monitor.specs.GuestUnit.{guest, first_gate, last_gate}
-use Rattle.breach_monitor.specs.RealTimeUnit.{real_time, on_flag, privileged_use}
+use Rattle.breach_monitor.specs.RealTimeUnit.{real_time_outcome, on_flag, privileged_use}
 use Rattle.breach_monitor.specs.declared.buses.OwnerBus.{OwnerBus}
 use Rattle.breach_monitor.specs.declared.guest.GuestUnit.{GuestUnit}
 use Rattle.breach_monitor.specs.declared.guest.GuestUnit.TheVariants as guest_unit
@@ -67,7 +67,7 @@ HasSoftGate answer =
 -- a unit of a real-time activity
 abbrev pub IsRealTimeUnit : RealTimeUnit → Reached → Reached → Type 0
 IsRealTimeUnit answer before after =
-    let effect = real_time (ports_of RealTime) before.registers (state_of before) in
+    let effect = real_time_outcome (ports_of RealTime) before.registers (state_of before) in
     MeetsEffect real_time_unit.Next answer effect before after
 
 -- one whose instruction, of so many bytes, is on the registers' own interrupt flag

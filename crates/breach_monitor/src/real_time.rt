@@ -86,7 +86,7 @@ fn privileged_use(
 
 /// One unit of a real-time activity: the instruction at EIP, or the first fault in the order of the fetch, privileged use, a
 /// vector that is neither the gate's nor the return's, a port of another owner, and the first access outside.
-#[tactic(auto, unfolding(crate::specs::RealTimeUnit::real_time))]
+#[tactic(auto, unfolding(crate::specs::RealTimeUnit::real_time_outcome))]
 pub fn real_time_unit(regs: &mut Registers, bus: &mut RealTimeBus<'_>) -> RealTimeUnit
     ensures lent { SameLoans bus.old bus.new }
     ensures unit { IsRealTimeUnit result (over_bus regs.old bus.old) (over_bus regs.new bus.new) }

@@ -4,6 +4,7 @@
 
 use cpu_state::Width;
 use cpu_state::Width::{W8, W16, W32};
+use port_map::ComPort::{Com1, Com2};
 use port_map::Owner::{Guest, RealTime};
 use port_map::{read_serial, write_serial};
 use uart_16550::Uart;
@@ -37,10 +38,10 @@ fn an_owner_may_access_its_serial_port_and_the_ports_of_nobody(rt: HostRuntime) 
 #[test]
 fn bytes_go_to_rising_ports(rt: HostRuntime) {
     let mut uart = Uart::new();
-    write_serial(Guest, 0x3FF, W16, 0x1234, &mut uart);
-    assert_eq!(rt; read_serial(Guest, 0x3FF, W16, &mut uart), 0xFF34);
-    write_serial(Guest, 0x3FB, W16, 0x0B03, &mut uart);
-    assert_eq!(rt; read_serial(Guest, 0x3FB, W32, &mut uart), 0x0060_0B03);
-    assert_eq!(rt; read_serial(RealTime, 0x2FF, W8, &mut uart), 0x34);
-    assert_eq!(rt; read_serial(RealTime, 0xFFFF, W32, &mut uart), 0xFFFF_FFFF);
+    write_serial(Com1, 0x3FF, W16, 0x1234, &mut uart);
+    assert_eq!(rt; read_serial(Com1, 0x3FF, W16, &mut uart), 0xFF34);
+    write_serial(Com1, 0x3FB, W16, 0x0B03, &mut uart);
+    assert_eq!(rt; read_serial(Com1, 0x3FB, W32, &mut uart), 0x0060_0B03);
+    assert_eq!(rt; read_serial(Com2, 0x2FF, W8, &mut uart), 0x34);
+    assert_eq!(rt; read_serial(Com2, 0xFFFF, W32, &mut uart), 0xFFFF_FFFF);
 }

@@ -19,13 +19,14 @@ use Rattle.line_kinds.specs.declared.kinds.RLine.{RLine}
 use Rattle.device_script.specs.Events.{lines_of}
 use Rattle.line_kinds.specs.Calls.{Call}
 use Rattle.run_lines.specs.Ticks.{at_tick, lines_to}
-use Rattle.bare_machine.specs.State.{Bare, GuestStart}
+use Rattle.bare_machine.specs.State.{Bare}
 use Rattle.bare_machine.specs.Run.{bare_after}
 use Rattle.bare_machine.specs.Tick.{after_devices as bare_devices}
 use Rattle.rt_timeline.specs.Dues.{earlier_due, time_of, ticks_until, count_until}
+use Rattle.hardware_lines.specs.RunStart.{RunStart}
 use Rattle.priority_schedule.specs.Release.{nearest, drains}
 use Rattle.priority_schedule.specs.Run.{real_after}
-use Rattle.priority_schedule.specs.State.{RealTime, RealTimeStart}
+use Rattle.priority_schedule.specs.State.{RealTime}
 use Rattle.priority_schedule.specs.Tick.{opened, after_devices as real_devices}
 
 -- the set of latched lines; the tick in which the one-shot rises, if it does; and the last tick in which line 0 was acknowledged, or 0
@@ -82,8 +83,8 @@ guest_due last b =
     else Some (b.timer_start + ((last - b.timer_start) / b.timer_period + 1) * b.timer_period)
 
 -- the nearest due of the waiting threads and of the guest's timer
-abbrev pub nearest_due : ℕ → Machines → Option ℕ
-nearest_due last m = earlier_due (time_of (nearest m.real.threads)) (guest_due last m.bare)
+abbrev pub next_due : ℕ → Machines → Option ℕ
+next_due last m = earlier_due (time_of (nearest m.real.threads)) (guest_due last m.bare)
 
 -- the one-shot is set in tick t for a due
 abbrev pub with_set : ℕ → Option ℕ → Marking → Marking
@@ -106,43 +107,40 @@ without_rise t h = record h { rise = if rises_at t h.rise then None else h.rise 
 abbrev pub device_edges : ℕ → List Event → Machines → Machines → Hardware → ℕ
 device_edges t events before after h = with_if (rises_at t h.rise) TIMER_LINE (both_rose before after (latched 0 (lines_of events)))
 
-abbrev pub device_step : ℕ → List Event → Machines → Machines → Marking → Marking
-device_step t events before after s =
+abbrev pub edge_step : ℕ → List Event → Machines → Machines → Marking → Marking
+edge_step t events before after s =
     with_edges (device_edges t events before after s.hardware) (record s { hardware = without_rise t s.hardware })
 
 -- 2. The drain: the latched lines are acknowledged in the order of the controllers, and none is latched any more. Where line 0 was
 -- among them, the one-shot is set for the nearest due after the releases, if there is one
 
-abbrev pub acknowledged : ℕ → Machines → Marking → Marking
-acknowledged t released s =
+abbrev pub all_acknowledged : ℕ → Machines → Marking → Marking
+all_acknowledged t released s =
     if has s.hardware.latch TIMER_LINE
-    then with_set t (nearest_due t released) (record s { hardware = record s.hardware { latch = 0; last = t } })
+    then with_set t (next_due t released) (record s { hardware = record s.hardware { latch = 0; last = t } })
     else record s { hardware = record s.hardware { latch = 0 } }
 
 abbrev pub drain_step : ℕ → Bool → Machines → Marking → Marking
 drain_step t draining released s =
-    if draining then acknowledged t released (record s { lines = s.lines ++ map Ack (in_order s.hardware.latch) })
+    if draining then all_acknowledged t released (record s { lines = s.lines ++ map Ack (in_order s.hardware.latch) })
     else s
 
 -- 3. The unit: its edges, and then the latched line whose owner it changed is acknowledged. A unit changes the owner of one line at
 -- most: that of its gate 18 or 19, or of the handler that faults
 
-abbrev pub differ : Bool → Bool → Bool
-differ a b = if a then not b else b
-
 abbrev pub changes_owner : Machines → Machines → ℕ → Bool
-changes_owner before after line = differ (is_held before.real.irqs line) (is_held after.real.irqs line)
+changes_owner before after line = if is_held before.real.irqs line then not (is_held after.real.irqs line) else is_held after.real.irqs line
 
-abbrev pub taken : List ℕ → Marking → Marking
-taken [] s = s
-taken (line ∷ lines) s =
+abbrev pub first_acknowledged : List ℕ → Marking → Marking
+first_acknowledged [] s = s
+first_acknowledged (line ∷ lines) s =
     if has s.hardware.latch line
     then record { hardware = record s.hardware { latch = without_line s.hardware.latch line }; lines = s.lines ++ Ack line ∷ [] }
     else s
 
 abbrev pub unit_step : Machines → Machines → Marking → Marking
 unit_step before after s =
-    taken (filter (changes_owner before after) handler_order) (with_edges (both_rose before after 0) s)
+    first_acknowledged (filter (changes_owner before after) handler_order) (with_edges (both_rose before after 0) s)
 
 -- 4. The timer: the one-shot is set where the unit changed the nearest due and there is one
 
@@ -154,14 +152,14 @@ same_due (Some a) (Some b) = a == b
 
 abbrev pub timer_step : ℕ → Machines → Machines → Marking → Marking
 timer_step t before after s =
-    if same_due (nearest_due s.hardware.last before) (nearest_due s.hardware.last after) then s
-    else with_set t (nearest_due s.hardware.last after) s
+    if same_due (next_due s.hardware.last before) (next_due s.hardware.last after) then s
+    else with_set t (next_due s.hardware.last after) s
 
 -- a tick, from both machines before it, after the device step, after the pick, and after it
 abbrev pub hardware_tick : ℕ → List Event → Machines → Machines → Machines → Machines → Hardware → Marking
 hardware_tick t events before stepped chosen after h =
     timer_step t chosen after (unit_step chosen after (
-    drain_step t (drains before.real) chosen (device_step t events before stepped (record { hardware = h; lines = [] }))))
+    drain_step t (drains before.real) chosen (edge_step t events before stepped (record { hardware = h; lines = [] }))))
 
 -- both machines after the device step, and after the pick
 abbrev pub devices_of : List Event → Machines → Machines
@@ -177,22 +175,22 @@ marking t events before after h = hardware_tick t events before (devices_of even
 -- A run
 
 -- both machines after n ticks
-unfoldable pub machines_after : GuestStart → RealTimeStart → List (ℕ × Event) → List (ℕ × RLine) → List (ℕ × Call) → ℕ → Machines
-machines_after guest start script r calls n =
-    record { bare = bare_after guest script r n; real = real_after start script calls n }
+unfoldable pub machines_after : RunStart → List (ℕ × RLine) → List (ℕ × Call) → ℕ → Machines
+machines_after start r calls n =
+    record { bare = bare_after start.guest start.script r n; real = real_after start.real start.script calls n }
 
-unfoldable pub hardware_after : GuestStart → RealTimeStart → List (ℕ × Event) → List (ℕ × RLine) → List (ℕ × Call) → ℕ → Hardware
-hardware_after guest start script r calls zero = first_hardware
-hardware_after guest start script r calls (suc n) =
-    (marking (suc n) (at_tick (suc n) script) (machines_after guest start script r calls n) (machines_after guest start script r calls (suc n))
-    (hardware_after guest start script r calls n)).hardware
+unfoldable pub hardware_after : RunStart → List (ℕ × RLine) → List (ℕ × Call) → ℕ → Hardware
+hardware_after start r calls zero = first_hardware
+hardware_after start r calls (suc n) =
+    (marking (suc n) (at_tick (suc n) start.script) (machines_after start r calls n) (machines_after start r calls (suc n))
+    (hardware_after start r calls n)).hardware
 
 -- the lines of the tick after n ticks
-unfoldable pub hardware_lines : GuestStart → RealTimeStart → List (ℕ × Event) → List (ℕ × RLine) → List (ℕ × Call) → ℕ → List HLine
-hardware_lines guest start script r calls n =
-    (marking (suc n) (at_tick (suc n) script) (machines_after guest start script r calls n) (machines_after guest start script r calls (suc n))
-    (hardware_after guest start script r calls n)).lines
+unfoldable pub hardware_lines : RunStart → List (ℕ × RLine) → List (ℕ × Call) → ℕ → List HLine
+hardware_lines start r calls n =
+    (marking (suc n) (at_tick (suc n) start.script) (machines_after start r calls n) (machines_after start r calls (suc n))
+    (hardware_after start r calls n)).lines
 
 -- the lines of ticks 1 to n. There are no end lines
-abbrev pub hardware : GuestStart → RealTimeStart → List (ℕ × Event) → ℕ → List (ℕ × RLine) → List (ℕ × Call) → List (ℕ × HLine)
-hardware guest start script n r calls = lines_to (hardware_lines guest start script r calls) n
+abbrev pub hardware : RunStart → ℕ → List (ℕ × RLine) → List (ℕ × Call) → List (ℕ × HLine)
+hardware start n r calls = lines_to (hardware_lines start r calls) n

@@ -1,3 +1,4 @@
 pub mod Hardware
+pub mod RunStart
 pub mod Timely
 pub mod Worked

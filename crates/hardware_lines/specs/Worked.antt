@@ -5,7 +5,7 @@ use Rattle.bare_machine.specs.State.{all_services, first_state as first_bare}
 use Rattle.priority_schedule.specs.State.{first_state as first_real}
 use Rattle.port_map.specs.Serial.{Serial}
 use Rattle.port_map.specs.SerialLine.{new_serial}
-use Rattle.hardware_lines.specs.Hardware.{Machines, Marking, ports_rose, with_edges, with_set, nearest_due, drain_step, taken, timer_step}
+use Rattle.hardware_lines.specs.Hardware.{Machines, Marking, ports_rose, with_edges, with_set, next_due, drain_step, first_acknowledged, timer_step}
 
 -- the hardware with these latched lines, the one-shot's rise in tick 90, and no line of a tick so far
 abbrev pub holding : ℕ → Marking
@@ -29,10 +29,10 @@ pub record Shots : Type 0 where
 
 -- The guest's timer of 3 ticks, set in tick 5
 pub record GuestDues : Type 0 where
-  pub first : nearest_due 0 (timed 5 3) ≡ Some 8
-  pub between : nearest_due 7 (timed 5 3) ≡ Some 8
-  pub next : nearest_due 8 (timed 5 3) ≡ Some 11
-  pub off : nearest_due 8 (timed 5 0) ≡ None
+  pub first : next_due 0 (timed 5 3) ≡ Some 8
+  pub between : next_due 7 (timed 5 3) ≡ Some 8
+  pub next : next_due 8 (timed 5 3) ≡ Some 11
+  pub off : next_due 8 (timed 5 0) ≡ None
 
 -- a serial port whose line is low, and high
 unfoldable pub low : Serial
@@ -61,9 +61,9 @@ abbrev pub Served : Type 0
 Served = drain_step 30 true (timed 5 3) (holding 0x1) ≡ record { hardware = record { latch = 0; rise = Some 32; last = 30 }; lines = Ack 0 ∷ Set 3 ∷ [] }
 
 -- A latched line whose owner changes is acknowledged, and the others stay; where it isn't latched nothing happens
-pub record Taken : Type 0 where
-  pub stood : taken (9 ∷ []) (holding 0x202) ≡ record { hardware = record { latch = 0x2; rise = Some 90; last = 0 }; lines = Ack 9 ∷ [] }
-  pub fell : taken (9 ∷ []) (holding 0x2) ≡ holding 0x2
+pub record OwnerChanged : Type 0 where
+  pub stood : first_acknowledged (9 ∷ []) (holding 0x202) ≡ record { hardware = record { latch = 0x2; rise = Some 90; last = 0 }; lines = Ack 9 ∷ [] }
+  pub fell : first_acknowledged (9 ∷ []) (holding 0x2) ≡ holding 0x2
 
 -- In tick 30 the one-shot is set where the unit changed the nearest due
 pub record Timers : Type 0 where

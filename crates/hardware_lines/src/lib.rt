@@ -5,7 +5,7 @@
 //! waiting threads and of the guest's timer, and of the lines that modules hold.
 #![tactic(auto)]
 
-ghost use Rattle.hardware_lines.specs.Worked.{Edges, GuestDues, Rises, Served, Shots, Taken, Timers};
+ghost use Rattle.hardware_lines.specs.Worked.{Edges, GuestDues, OwnerChanged, Rises, Served, Shots, Timers};
 
 /// What the definitions give on small states: the one-shot, dues, rises, edges and acknowledgements.
 pub fn worked()
@@ -14,6 +14,6 @@ pub fn worked()
     ensures rises { Rises }
     ensures edges { Edges }
     ensures served { Served }
-    ensures taken { Taken }
+    ensures owner_changed { OwnerChanged }
     ensures timers { Timers }
 {}

@@ -10,8 +10,8 @@ use Rattle.pit_8254.specs.Timer.{all_pulsed}
 use Rattle.uart_16550.specs.SerialPort.{line_of}
 use Rattle.device_script.specs.Event.{is_device_event}
 use Rattle.device_script.specs.declared.event.Event.{Event}
-use Rattle.device_script.specs.declared.event.Event.TheVariants.{Line, Com1, Com2}
-use Rattle.port_map.specs.declared.owner.Owner.TheVariants.{Guest, RealTime}
+use Rattle.device_script.specs.declared.event.Event.TheVariants.{Line, Com1 as ForCom1, Com2 as ForCom2}
+use Rattle.port_map.specs.declared.com_port.ComPort.TheVariants.{Com1, Com2}
 use Rattle.port_map.specs.Serial.{rose}
 use Rattle.port_board.specs.Board.{Rising, rises_if, com1_sampled, com2_sampled, sampled, pulsed_once, coms_ticked, event_done, events_done, AreEvents, device_step, serial_of}
 use Rattle.port_board.specs.OneShot.{rises_next}
@@ -45,8 +45,8 @@ once_levels b s l =
 events_levels : (b : Board) (events : List Event) (s : Rising) → Levels b s → Levels b (events_done events s)
 events_levels b [] s l = l
 events_levels b (Line n ∷ events) s l = events_levels b events (event_done (Line n) s) (record { com1 = l.com1; com2 = l.com2 })
-events_levels b (Com1 v ∷ events) s l = events_levels b events (event_done (Com1 v) s) (record { com1 = l.com1; com2 = l.com2 })
-events_levels b (Com2 v ∷ events) s l = events_levels b events (event_done (Com2 v) s) (record { com1 = l.com1; com2 = l.com2 })
+events_levels b (ForCom1 v ∷ events) s l = events_levels b events (event_done (ForCom1 v) s) (record { com1 = l.com1; com2 = l.com2 })
+events_levels b (ForCom2 v ∷ events) s l = events_levels b events (event_done (ForCom2 v) s) (record { com1 = l.com1; com2 = l.com2 })
 
 shuffle : (a b c : Bool) → ((a || b) || c) ≡ (b || (a || c))
 shuffle true true c = refl
@@ -63,8 +63,8 @@ events_line n (Line m ∷ events) s =
     ∙ ap (λ x. x || is_raised n events) (has-with s.lines m n)
     ∙ ap (λ x. (x || has s.lines n) || is_raised n events) (same_test n m)
     ∙ shuffle (m == n) (has s.lines n) (is_raised n events)
-events_line n (Com1 v ∷ events) s = events_line n events (event_done (Com1 v) s)
-events_line n (Com2 v ∷ events) s = events_line n events (event_done (Com2 v) s)
+events_line n (ForCom1 v ∷ events) s = events_line n events (event_done (ForCom1 v) s)
+events_line n (ForCom2 v ∷ events) s = events_line n events (event_done (ForCom2 v) s)
 
 -- a script doesn't raise line 0
 no_zero : (events : List Event) → AreEvents events → is_raised 0 events ≡ false
@@ -74,8 +74,8 @@ no_zero (Line m ∷ events) are =
     let some = (good_line m parts.0).0 in
     let other : (m == 0) ≡ false = grind (arith, nat_tests, some) in
     rw other (no_zero events parts.1)
-no_zero (Com1 v ∷ events) are = no_zero events are
-no_zero (Com2 v ∷ events) are = no_zero events are
+no_zero (ForCom1 v ∷ events) are = no_zero events are
+no_zero (ForCom2 v ∷ events) are = no_zero events are
 
 -- the timer's pulses raise line 0 alone
 once_line : (n : ℕ) (s : Rising) → n ≢ 0 → has (pulsed_once s).lines n ≡ has s.lines n
@@ -96,18 +96,18 @@ com2_high s = elim (line_of s.board.com2 && not s.board.com2_high) as (λ b. ((r
 
 -- the sampling
 sampled_line : (b : Board) (n : ℕ) (s : Rising) → Levels b s
-    → has (sampled s).lines n ≡ ((n == 3 && rose (serial_of RealTime b) (serial_of RealTime (sampled s).board)) || ((n == 4 && rose (serial_of Guest b) (serial_of Guest (sampled s).board)) || has s.lines n))
+    → has (sampled s).lines n ≡ ((n == 3 && rose (serial_of Com2 b) (serial_of Com2 (sampled s).board)) || ((n == 4 && rose (serial_of Com1 b) (serial_of Com1 (sampled s).board)) || has s.lines n))
 sampled_line b n s l =
     let x = com1_sampled s in
     let h1 : (sampled s).board.com1_high ≡ line_of s.board.com1 = (com2_high x).1 ∙ com1_high s in
     let h2 : (sampled s).board.com2_high ≡ line_of x.board.com2 = (com2_high x).0 in
-    let r1 : (line_of s.board.com1 && not s.board.com1_high) ≡ rose (serial_of Guest b) (serial_of Guest (sampled s).board) =
+    let r1 : (line_of s.board.com1 && not s.board.com1_high) ≡ rose (serial_of Com1 b) (serial_of Com1 (sampled s).board) =
     ap (λ v. v && not s.board.com1_high) (sym h1) ∙ ap (λ v. (sampled s).board.com1_high && not v) l.com1 in
-    let r2 : (line_of x.board.com2 && not x.board.com2_high) ≡ rose (serial_of RealTime b) (serial_of RealTime (sampled s).board) =
+    let r2 : (line_of x.board.com2 && not x.board.com2_high) ≡ rose (serial_of Com2 b) (serial_of Com2 (sampled s).board) =
     ap (λ v. v && not x.board.com2_high) (sym h2) ∙ ap (λ v. (sampled s).board.com2_high && not v) (com2_kept s ∙ l.com2) in
     rise_line (line_of x.board.com2 && not x.board.com2_high) 3 n (record x { board = record x.board { com2_high = line_of x.board.com2 } })
     ∙ ap (λ v. (n == 3 && v) || has x.lines n) r2
-    ∙ ap (λ v. (n == 3 && rose (serial_of RealTime b) (serial_of RealTime (sampled s).board)) || v)
+    ∙ ap (λ v. (n == 3 && rose (serial_of Com2 b) (serial_of Com2 (sampled s).board)) || v)
     (rise_line (line_of s.board.com1 && not s.board.com1_high) 4 n (record s { board = record s.board { com1_high = line_of s.board.com1 } })
     ∙ ap (λ v. (n == 4 && v) || has s.lines n) r1)
 
@@ -128,8 +128,8 @@ other_line b events n ne are =
     let levels = once_levels b (pulsed_once s) (once_levels b s (record { com1 = refl; com2 = refl })) in
     let start : has c.lines n ≡ false = once_line n (pulsed_once s) ne ∙ once_line n s ne ∙ has-zero n in
     let e = events_done events c in
-    let com1 = n == 4 && rose (serial_of Guest b) (serial_of Guest (device_step events b).board) in
-    let com2 = n == 3 && rose (serial_of RealTime b) (serial_of RealTime (device_step events b).board) in
+    let com1 = n == 4 && rose (serial_of Com1 b) (serial_of Com1 (device_step events b).board) in
+    let com2 = n == 3 && rose (serial_of Com2 b) (serial_of Com2 (device_step events b).board) in
     sampled_line b n e (events_levels b events c (record { com1 = levels.com1; com2 = levels.com2 }))
     ∙ ap (λ v. com2 || (com1 || v)) (events_line n events c ∙ ap (λ v. v || is_raised n events) start)
     ∙ order_other com1 com2 (is_raised n events) (rises_next (ticks_left b)) n ne
@@ -140,5 +140,5 @@ zero_line timer com1 com2 script e = grind arith
 pub step_line : (b : Board) (events : List Event) → AreEvents events → IsShot b → (n : ℕ) → has (device_step events b).lines n ≡ line_rises events b (device_step events b).board n
 step_line b events are shot zero =
     (counts_down b events are shot).line
-    ∙ zero_line (rises_next (ticks_left b)) (rose (serial_of Guest b) (serial_of Guest (device_step events b).board)) (rose (serial_of RealTime b) (serial_of RealTime (device_step events b).board)) (is_raised 0 events) (no_zero events are)
+    ∙ zero_line (rises_next (ticks_left b)) (rose (serial_of Com1 b) (serial_of Com1 (device_step events b).board)) (rose (serial_of Com2 b) (serial_of Com2 (device_step events b).board)) (is_raised 0 events) (no_zero events are)
 step_line b events are shot (suc n) = other_line b events (suc n) (λ e. absurd (omega (arith, e))) are

@@ -1,8 +1,8 @@
 -- The levels of the serial ports' lines that were sampled last.
 use Rattle.std.proofs.Common.{◌≡◌, ℕ, Bool, true, false, not, ◌&&◌, refl, sym, ap, subst, ◌∙◌}
 use Rattle.uart_16550.specs.SerialPort.{SerialPort, line_of}
-use Rattle.port_map.specs.declared.owner.Owner.{Owner}
-use Rattle.port_map.specs.declared.owner.Owner.TheVariants.{Guest, RealTime}
+use Rattle.port_map.specs.declared.com_port.ComPort.{ComPort}
+use Rattle.port_map.specs.declared.com_port.ComPort.TheVariants.{Com1, Com2}
 use Rattle.port_map.specs.Serial.{sampled_now, rose}
 use Rattle.port_board.specs.Board.{Rising, rises_if, rises_at_once, com1_sampled, com2_sampled, sampled, accessed, with_port, with_serial, serial_of, all_sampled, IsSampled}
 use Rattle.port_board.specs.declared.board.Board.{Board}
@@ -27,12 +27,12 @@ at_once_samples : (rose : Bool) (n : ℕ) (b : Board) → IsSampled b → IsSamp
 at_once_samples true n b k = record { com1 = k.com1; com2 = k.com2 }
 at_once_samples false n b k = k
 
--- and after a sampling of the owner's they are still, where they were before
-pub accessed_samples : (owner : Owner) (p : SerialPort) (b : Board) → IsSampled b → IsSampled (accessed owner (sampled_now p) b)
-accessed_samples Guest p b k =
-    at_once_samples (rose (serial_of Guest b) (sampled_now p)) 4 (with_serial Guest (sampled_now p) b) (record { com1 = refl; com2 = k.com2 })
-accessed_samples RealTime p b k =
-    at_once_samples (rose (serial_of RealTime b) (sampled_now p)) 3 (with_serial RealTime (sampled_now p) b) (record { com1 = k.com1; com2 = refl })
+-- and after a sampling of one they are still, where they were before
+pub accessed_samples : (which : ComPort) (p : SerialPort) (b : Board) → IsSampled b → IsSampled (accessed which (sampled_now p) b)
+accessed_samples Com1 p b k =
+    at_once_samples (rose (serial_of Com1 b) (sampled_now p)) 4 (with_serial Com1 (sampled_now p) b) (record { com1 = refl; com2 = k.com2 })
+accessed_samples Com2 p b k =
+    at_once_samples (rose (serial_of Com2 b) (sampled_now p)) 3 (with_serial Com2 (sampled_now p) b) (record { com1 = k.com1; com2 = refl })
 
 -- a sampling that finds a level as it was
 same_level : (rose : Bool) (n : ℕ) (s : Rising) → rose ≡ false → rises_if rose n s ≡ s
@@ -43,13 +43,13 @@ same_level false n s e = refl
 abbrev pub kept_beside : Rising → Board
 kept_beside s = record s.board { rises = s.lines }
 
-guest_beside : (rose : Bool) (b : Board) → rises_at_once rose 4 b ≡ kept_beside (rises_if rose 4 (record { board = b; lines = b.rises }))
-guest_beside true b = refl
-guest_beside false b = refl
+com1_beside : (rose : Bool) (b : Board) → rises_at_once rose 4 b ≡ kept_beside (rises_if rose 4 (record { board = b; lines = b.rises }))
+com1_beside true b = refl
+com1_beside false b = refl
 
-real_time_beside : (rose : Bool) (b : Board) → rises_at_once rose 3 b ≡ kept_beside (rises_if rose 3 (record { board = b; lines = b.rises }))
-real_time_beside true b = refl
-real_time_beside false b = refl
+com2_beside : (rose : Bool) (b : Board) → rises_at_once rose 3 b ≡ kept_beside (rises_if rose 3 (record { board = b; lines = b.rises }))
+com2_beside true b = refl
+com2_beside false b = refl
 
 again : (high line : Bool) → high ≡ line → line && not high ≡ false
 again true line e = rw (← e) refl
@@ -75,15 +75,15 @@ com1_same s e =
     same_level (line_of s.board.com1 && not s.board.com1_high) 4 (record s { board = record s.board { com1_high = line_of s.board.com1 } }) (again s.board.com1_high (line_of s.board.com1) e)
     ∙ level1_kept s e
 
--- a sampling of the owner's line alone is one of both, where the other's level is that of its line
-pub owner_alone : (owner : Owner) (p : SerialPort) (b : Board) → IsSampled b → accessed owner (sampled_now p) b ≡ all_sampled (with_port owner p b)
-owner_alone Guest p b k =
-    let start : Rising = record { board = with_port Guest p b; lines = b.rises } in
+-- a sampling of one line alone is one of both, where the other's level is that of its line
+pub port_alone : (which : ComPort) (p : SerialPort) (b : Board) → IsSampled b → accessed which (sampled_now p) b ≡ all_sampled (with_port which p b)
+port_alone Com1 p b k =
+    let start : Rising = record { board = with_port Com1 p b; lines = b.rises } in
     let level = rise_com2 (line_of p && not b.com1_high) 4 (record start { board = record start.board { com1_high = line_of p } }) k.com2 in
-    guest_beside (line_of p && not b.com1_high) (with_serial Guest (sampled_now p) b) ∙ ap kept_beside (sym (com2_same (com1_sampled start) level))
-owner_alone RealTime p b k =
-    let start : Rising = record { board = with_port RealTime p b; lines = b.rises } in
-    real_time_beside (line_of p && not b.com2_high) (with_serial RealTime (sampled_now p) b) ∙ ap (λ s. kept_beside (com2_sampled s)) (sym (com1_same start k.com1))
+    com1_beside (line_of p && not b.com1_high) (with_serial Com1 (sampled_now p) b) ∙ ap kept_beside (sym (com2_same (com1_sampled start) level))
+port_alone Com2 p b k =
+    let start : Rising = record { board = with_port Com2 p b; lines = b.rises } in
+    com2_beside (line_of p && not b.com2_high) (with_serial Com2 (sampled_now p) b) ∙ ap (λ s. kept_beside (com2_sampled s)) (sym (com1_same start k.com1))
 
 pub sampled_of : (b : Board) (n : ℕ) (s : Rising) → record { board = b; lines = n } ≡ sampled s → IsSampled b
 sampled_of b n s e = subst (λ (r : Rising). IsSampled r.board) (sym e) (sampled_samples s)

@@ -6,7 +6,7 @@ use Rattle.pic_8259.specs.Boot.{IsBooted}
 use Rattle.pit_8254.specs.Timer.{all_pulsed}
 use Rattle.uart_16550.specs.SerialPort.{SerialPort, ticked}
 use Rattle.device_script.specs.declared.event.Event.{Event}
-use Rattle.port_map.specs.declared.owner.Owner.{Owner}
+use Rattle.port_map.specs.declared.com_port.ComPort.{ComPort}
 use Rattle.port_board.specs.Board.{Rising, IsSampled, AreEvents, device_step, sampled, pulsed_once, coms_ticked, events_done, serial_of, rises_of}
 use Rattle.port_board.specs.OneShot.{one_less}
 use Rattle.port_board.specs.Left.{ticks_left, IsShot}
@@ -27,7 +27,7 @@ pub record Ticked (events : List Event) (b new : Board) (lines : ℕ) : Type 0 w
   pub left : IsShot b → ticks_left new ≡ one_less (ticks_left b)
   pub shot : IsShot b → IsShot new
   pub timer : new.pit ≡ all_pulsed (all_pulsed b.pit)
-  pub serial : (owner : Owner) → serial_of owner new ≡ serial_stepped owner events (serial_of owner b)
+  pub serial : (which : ComPort) → serial_of which new ≡ serial_stepped which events (serial_of which b)
   pub rises : rises_of new ≡ rises_of b
 
 by_definition : (events : List Event) (b : Board) → AreEvents events → Ticked events b (device_step events b).board (device_step events b).lines

@@ -10,9 +10,11 @@ use Rattle.uart_16550.specs.SerialPort.{SerialPort, byte_received, ticked, leave
 use Rattle.device_script.specs.declared.event.Event.{Event}
 use Rattle.device_script.specs.declared.event.Event.TheVariants.{Line, Com1 as ForCom1, Com2 as ForCom2}
 use Rattle.device_script.specs.Event.{is_device_event}
+use Rattle.port_map.specs.declared.com_port.ComPort.{ComPort}
+use Rattle.port_map.specs.declared.com_port.ComPort.TheVariants.{Com1, Com2}
 use Rattle.port_map.specs.declared.owner.Owner.{Owner}
-use Rattle.port_map.specs.declared.owner.Owner.TheVariants.{Guest, RealTime}
-use Rattle.port_map.specs.Owner.{line_of_owner}
+use Rattle.port_map.specs.ComPort.{interrupt_line}
+use Rattle.port_map.specs.Owner.{com_port_of}
 use Rattle.port_map.specs.Serial.{Serial, serial_ports, rose}
 use Rattle.port_board.specs.declared.board.Board.{Board}
 use Rattle.port_board.specs.declared.board.Edges.{Edges}
@@ -56,22 +58,22 @@ rises_if rose n s = if rose then rises n s else s
 
 -- a sampling of the serial ports' lines
 abbrev pub com1_sampled : Rising → Rising
-com1_sampled s = rises_if (line_of s.board.com1 && not s.board.com1_high) (line_of_owner Guest) (record s { board = record s.board { com1_high = line_of s.board.com1 } })
+com1_sampled s = rises_if (line_of s.board.com1 && not s.board.com1_high) (interrupt_line Com1) (record s { board = record s.board { com1_high = line_of s.board.com1 } })
 
 abbrev pub com2_sampled : Rising → Rising
-com2_sampled s = rises_if (line_of s.board.com2 && not s.board.com2_high) (line_of_owner RealTime) (record s { board = record s.board { com2_high = line_of s.board.com2 } })
+com2_sampled s = rises_if (line_of s.board.com2 && not s.board.com2_high) (interrupt_line Com2) (record s { board = record s.board { com2_high = line_of s.board.com2 } })
 
 abbrev pub sampled : Rising → Rising
 sampled s = com2_sampled (com1_sampled s)
 
--- the serial port of an owner
-abbrev pub serial_of : Owner → Board → Serial
-serial_of Guest b = record { port = b.com1; high = b.com1_high }
-serial_of RealTime b = record { port = b.com2; high = b.com2_high }
+-- a serial port with the level of its line
+abbrev pub serial_of : ComPort → Board → Serial
+serial_of Com1 b = record { port = b.com1; high = b.com1_high }
+serial_of Com2 b = record { port = b.com2; high = b.com2_high }
 
-abbrev pub with_serial : Owner → Serial → Board → Board
-with_serial Guest s b = record b { com1 = s.port; com1_high = s.high }
-with_serial RealTime s b = record b { com2 = s.port; com2_high = s.high }
+abbrev pub with_serial : ComPort → Serial → Board → Board
+with_serial Com1 s b = record b { com1 = s.port; com1_high = s.high }
+with_serial Com2 s b = record b { com2 = s.port; com2_high = s.high }
 
 -- a line rises by an access: it is latched at once, and joins the set that the board keeps
 abbrev pub rises_at_once : Bool → ℕ → Board → Board
@@ -81,23 +83,27 @@ rises_at_once rose n b = if rose then record b { pair = risen n b.pair; rises = 
 abbrev pub all_sampled : Board → Board
 all_sampled b = let s = sampled (record { board = b; lines = b.rises }) in record s.board { rises = s.lines }
 
--- another state of an owner's serial port
-abbrev pub with_port : Owner → SerialPort → Board → Board
-with_port Guest p b = record b { com1 = p }
-with_port RealTime p b = record b { com2 = p }
+-- another state of a serial port
+abbrev pub with_port : ComPort → SerialPort → Board → Board
+with_port Com1 p b = record b { com1 = p }
+with_port Com2 p b = record b { com2 = p }
 
--- the board after an access that leaves the owner's serial port so; the other port hasn't changed since its line was sampled
-abbrev pub accessed : Owner → Serial → Board → Board
-accessed owner s b = rises_at_once (rose (serial_of owner b) s) (line_of_owner owner) (with_serial owner s b)
+-- the board after an access that leaves a serial port so; the other one hasn't changed since its line was sampled
+abbrev pub accessed : ComPort → Serial → Board → Board
+accessed which s b = rises_at_once (rose (serial_of which b) s) (interrupt_line which) (with_serial which s b)
+
+-- the ports of the board for who has this serial port alone
+abbrev pub ports_with : ComPort → Ports Board
+ports_with which = record {
+  mine = (serial_ports which).mine;
+  answer = λ b port n. (serial_ports which).answer (serial_of which b) port n;
+  after_in = λ b port n. accessed which ((serial_ports which).after_in (serial_of which b) port n) b;
+  after_out = λ b port n v. accessed which ((serial_ports which).after_out (serial_of which b) port n v) b;
+}
 
 -- the ports of an owner are those of its serial port
 abbrev pub ports_of : Owner → Ports Board
-ports_of owner = record {
-  mine = (serial_ports owner).mine;
-  answer = λ b port n. (serial_ports owner).answer (serial_of owner b) port n;
-  after_in = λ b port n. accessed owner ((serial_ports owner).after_in (serial_of owner b) port n) b;
-  after_out = λ b port n v. accessed owner ((serial_ports owner).after_out (serial_of owner b) port n v) b;
-}
+ports_of owner = ports_with (com_port_of owner)
 
 -- one pulse of the timer, whose OUT 0 is line 0
 abbrev pub pulsed_once : Rising → Rising

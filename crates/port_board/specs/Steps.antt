@@ -8,9 +8,9 @@ use Rattle.pit_8254.specs.Timer.{all_pulsed}
 use Rattle.uart_16550.specs.SerialPort.{SerialPort, byte_received, ticked}
 use Rattle.device_script.specs.declared.event.Event.{Event}
 use Rattle.device_script.specs.declared.event.Event.TheVariants.{Line, Com1 as ForCom1, Com2 as ForCom2}
-use Rattle.port_map.specs.declared.owner.Owner.{Owner}
-use Rattle.port_map.specs.declared.owner.Owner.TheVariants.{Guest, RealTime}
-use Rattle.port_map.specs.Owner.{line_of_owner}
+use Rattle.port_map.specs.declared.com_port.ComPort.{ComPort}
+use Rattle.port_map.specs.declared.com_port.ComPort.TheVariants.{Com1, Com2}
+use Rattle.port_map.specs.ComPort.{interrupt_line}
 use Rattle.port_map.specs.Serial.{Serial, sampled_now, rose}
 use Rattle.port_board.specs.Board.{AreEvents, rises_of, serial_of, device_step}
 use Rattle.port_board.specs.OneShot.{rises_next}
@@ -31,25 +31,25 @@ is_raised n events = list_any (raises n) events
 abbrev pub line_rises : List Event → Board → Board → ℕ → Bool
 line_rises events before after n =
     (n == 0 && rises_next (ticks_left before))
-    || ((n == line_of_owner Guest && rose (serial_of Guest before) (serial_of Guest after))
-    || ((n == line_of_owner RealTime && rose (serial_of RealTime before) (serial_of RealTime after))
+    || ((n == interrupt_line Com1 && rose (serial_of Com1 before) (serial_of Com1 after))
+    || ((n == interrupt_line Com2 && rose (serial_of Com2 before) (serial_of Com2 after))
     || is_raised n events))
 
--- an owner's serial port after an event, if that is a byte for it, and after some events in their order
-abbrev pub heard : Owner → Event → SerialPort → SerialPort
-heard owner (Line line) p = p
-heard Guest (ForCom1 byte) p = byte_received byte p
-heard RealTime (ForCom1 byte) p = p
-heard Guest (ForCom2 byte) p = p
-heard RealTime (ForCom2 byte) p = byte_received byte p
+-- a serial port after an event, if that is a byte for it, and after some events in their order
+abbrev pub heard : ComPort → Event → SerialPort → SerialPort
+heard which (Line line) p = p
+heard Com1 (ForCom1 byte) p = byte_received byte p
+heard Com2 (ForCom1 byte) p = p
+heard Com1 (ForCom2 byte) p = p
+heard Com2 (ForCom2 byte) p = byte_received byte p
 
-abbrev pub all_heard : Owner → List Event → SerialPort → SerialPort
-all_heard owner [] p = p
-all_heard owner (e ∷ events) p = all_heard owner events (heard owner e p)
+abbrev pub all_heard : ComPort → List Event → SerialPort → SerialPort
+all_heard which [] p = p
+all_heard which (e ∷ events) p = all_heard which events (heard which e p)
 
--- an owner's serial port after a device step: a tick of its clock, the bytes of the script, the sampling of its line
-abbrev pub serial_stepped : Owner → List Event → Serial → Serial
-serial_stepped owner events s = sampled_now (all_heard owner events (ticked s.port))
+-- a serial port after a device step: a tick of its clock, the bytes of the script, the sampling of its line
+abbrev pub serial_stepped : ComPort → List Event → Serial → Serial
+serial_stepped which events s = sampled_now (all_heard which events (ticked s.port))
 
 -- a device step: what rises is latched beside what was, each line rises by its own cause, and the devices move by themselves
 pub record StepsDevices (b : Board) (events : List Event) : Type 0 where
@@ -58,7 +58,7 @@ pub record StepsDevices (b : Board) (events : List Event) : Type 0 where
   pub latched : IsPair b.pair → (n : ℕ) → has (latch_of (device_step events b).board.pair) n ≡ (has (latch_of b.pair) n || has (device_step events b).lines n)
   pub rising : IsShot b → (n : ℕ) → has (device_step events b).lines n ≡ line_rises events b (device_step events b).board n
   pub timer : (device_step events b).board.pit ≡ all_pulsed (all_pulsed b.pit)
-  pub serial : (owner : Owner) → serial_of owner (device_step events b).board ≡ serial_stepped owner events (serial_of owner b)
+  pub serial : (which : ComPort) → serial_of which (device_step events b).board ≡ serial_stepped which events (serial_of which b)
   pub rises : rises_of (device_step events b).board ≡ rises_of b
 
 abbrev pub DeviceSteps : Type 0

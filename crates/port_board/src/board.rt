@@ -5,7 +5,7 @@ ghost use Rattle.line_sets.specs.LineSet.{has};
 ghost use Rattle.pic_8259.specs.Controllers.{IsPair, latch_of};
 ghost use Rattle.pic_8259.specs.Boot.{IsBooted};
 ghost use Rattle.pit_8254.specs.Timer.{all_pulsed};
-ghost use Rattle.port_map.specs.declared.owner.Owner.{Owner};
+ghost use Rattle.port_map.specs.declared.com_port.ComPort.{ComPort};
 ghost use Rattle.cpu_state.specs.Width.{size};
 ghost use Rattle.cpu_state.specs.Bus.{all_mine};
 ghost use Rattle.port_map.specs.Serial.{sampled_now};
@@ -13,14 +13,14 @@ ghost use Rattle.device_script.specs.Event.{is_device_event};
 ghost use Rattle.port_board.specs.OneShot.{one_shot_set, one_less};
 ghost use Rattle.port_board.specs.Left.{ticks_left, IsShot};
 ghost use Rattle.port_board.specs.Steps.{line_rises, serial_stepped};
-ghost use Rattle.port_board.specs.Board.{IsSampled, rises_of, rises_taken, serial_of, accessed, rises_if, com1_sampled, com2_sampled, sampled, ports_of, pulsed_once, event_done, events_done, AreEvents, device_step, edges_of, new_board};
+ghost use Rattle.port_board.specs.Board.{IsSampled, rises_of, rises_taken, serial_of, accessed, rises_if, com1_sampled, com2_sampled, sampled, ports_of, ports_with, pulsed_once, event_done, events_done, AreEvents, device_step, edges_of, new_board};
 
 use cpu_state::Width;
 use device_script::Event;
 use line_sets::with_line16;
 use pic_8259::Pair;
 use pit_8254::{CONTROL_WORD, COUNTER_0, Pit};
-use port_map::{Owner, read_serial, write_serial};
+use port_map::{ComPort, Owner, read_serial, write_serial};
 use rt_constants::lines::{COM1_LINE, COM2_LINE, TIMER_LINE};
 use uart_16550::Uart;
 
@@ -123,13 +123,13 @@ impl Board {
         self.sample_com2(lines)
     }
 
-    // The sampling after an access of an owner.
-    fn settle(&mut self, owner: Owner)
-        ensures { self.new ≡ accessed owner (sampled_now (serial_of owner self.old).port) self.old }
+    // The sampling after an access to a serial port.
+    fn settle(&mut self, which: ComPort)
+        ensures { self.new ≡ accessed which (sampled_now (serial_of which self.old).port) self.old }
     {
-        match owner {
-            Owner::Guest => self.rises = self.sample_com1(self.rises),
-            Owner::RealTime => self.rises = self.sample_com2(self.rises),
+        match which {
+            ComPort::Com1 => self.rises = self.sample_com1(self.rises),
+            ComPort::Com2 => self.rises = self.sample_com2(self.rises),
         }
     }
 
@@ -144,19 +144,19 @@ impl Board {
         if !owner.has_all(port, width) {
             return Err(NotYours);
         }
-        Ok(self.read_own(owner, port, width))
+        Ok(self.read_with(owner.com_port(), port, width))
     }
 
-    // A read of ports that are the owner's or nobody's.
-    fn read_own(&mut self, owner: Owner, port: u16, width: Width) -> u32
-        ensures value { result ≡ (ports_of owner).answer self.old port (size width) }
-        ensures after { self.new ≡ (ports_of owner).after_in self.old port (size width) }
+    // A read of ports that are this serial port's or nobody's.
+    fn read_with(&mut self, which: ComPort, port: u16, width: Width) -> u32
+        ensures value { result ≡ (ports_with which).answer self.old port (size width) }
+        ensures after { self.new ≡ (ports_with which).after_in self.old port (size width) }
     {
-        let value = match owner {
-            Owner::Guest => read_serial(owner, port, width, &mut self.com1),
-            Owner::RealTime => read_serial(owner, port, width, &mut self.com2),
+        let value = match which {
+            ComPort::Com1 => read_serial(which, port, width, &mut self.com1),
+            ComPort::Com2 => read_serial(which, port, width, &mut self.com2),
         };
-        self.settle(owner);
+        self.settle(which);
         value
     }
 
@@ -175,19 +175,19 @@ impl Board {
         if !owner.has_all(port, width) {
             return Err(NotYours);
         }
-        self.write_own(owner, port, width, value);
+        self.write_with(owner.com_port(), port, width, value);
         Ok(())
     }
 
-    // A write to ports that are the owner's or nobody's.
-    fn write_own(&mut self, owner: Owner, port: u16, width: Width, value: u32)
-        ensures { self.new ≡ (ports_of owner).after_out self.old port (size width) value }
+    // A write to ports that are this serial port's or nobody's.
+    fn write_with(&mut self, which: ComPort, port: u16, width: Width, value: u32)
+        ensures { self.new ≡ (ports_with which).after_out self.old port (size width) value }
     {
-        match owner {
-            Owner::Guest => write_serial(owner, port, width, value, &mut self.com1),
-            Owner::RealTime => write_serial(owner, port, width, value, &mut self.com2),
+        match which {
+            ComPort::Com1 => write_serial(which, port, width, value, &mut self.com1),
+            ComPort::Com2 => write_serial(which, port, width, value, &mut self.com2),
         }
-        self.settle(owner);
+        self.settle(which);
     }
 
     // A pulse of the timer.
@@ -242,7 +242,7 @@ impl Board {
         ensures left { IsShot self.old → ticks_left self.new ≡ one_less (ticks_left self.old) }
         ensures shot { IsShot self.old → IsShot self.new }
         ensures timer { self.new.pit ≡ all_pulsed (all_pulsed self.old.pit) }
-        ensures serial { (owner : Owner) → serial_of owner self.new ≡ serial_stepped owner events.now (serial_of owner self.old) }
+        ensures serial { (which : ComPort) → serial_of which self.new ≡ serial_stepped which events.now (serial_of which self.old) }
         ensures rises { rises_of self.new ≡ rises_of self.old }
     {
         let lines = self.pulse(0);
@@ -265,7 +265,7 @@ impl Board {
         ensures pair { self.new.pair ≡ self.old.pair }
         ensures counter1 { self.new.pit.counter1 ≡ self.old.pit.counter1 }
         ensures counter2 { self.new.pit.counter2 ≡ self.old.pit.counter2 }
-        ensures serial { (owner : Owner) → serial_of owner self.new ≡ serial_of owner self.old }
+        ensures serial { (which : ComPort) → serial_of which self.new ≡ serial_of which self.old }
         ensures sampled { IsSampled self.old → IsSampled self.new }
         ensures rises { rises_of self.new ≡ rises_of self.old }
     {

@@ -1,6 +1,6 @@
 // What holds of the board over device steps and accesses.
 
-ghost use Rattle.port_board.specs.Laws.{LatchesRises, SamplesOwnerAlone};
+ghost use Rattle.port_board.specs.Laws.{LatchesRises, SamplesPortAlone};
 ghost use Rattle.port_board.specs.Left.{CountsDown, ReadsOneShot, SetsTicksLeft};
 ghost use Rattle.port_board.specs.OneShot.{TicksOneShot, SetsOneShot};
 ghost use Rattle.port_board.specs.Steps.{DeviceSteps};
@@ -20,9 +20,9 @@ pub fn latches_rises()
     ensures { LatchesRises }
 {}
 
-/// After an access it makes no difference whether both serial ports are sampled, or the owner's alone.
-pub fn samples_owner_alone()
-    ensures { SamplesOwnerAlone }
+/// After an access it makes no difference whether both serial ports are sampled, or the one that was accessed alone.
+pub fn samples_port_alone()
+    ensures { SamplesPortAlone }
 {}
 
 /// What counter 0 says is in how many ticks the one-shot rises.

@@ -8,6 +8,6 @@ mod laws;
 
 pub use board::{Board, Edges, NotYours};
 pub use laws::{
-    counts_down, device_steps, latches_rises, reads_one_shot, samples_owner_alone, sets_one_shot,
+    counts_down, device_steps, latches_rises, reads_one_shot, samples_port_alone, sets_one_shot,
     sets_ticks_left, ticks_one_shot,
 };

@@ -1,3 +1,4 @@
+pub mod ComPort
 pub mod Owner
 pub mod Serial
 pub mod SerialLine

@@ -14,15 +14,15 @@ use Rattle.rt_ready.specs.Order.{joined}
 use Rattle.priority_schedule.specs.State.{RealTime}
 
 -- a thread is open to interrupts where its own IF is set
-abbrev pub is_open : Option Thread → Bool
-is_open None = false
-is_open (Some thread) = thread.registers.eflags.interrupt
+abbrev pub is_thread_open : Option Thread → Bool
+is_thread_open None = false
+is_thread_open (Some thread) = thread.registers.eflags.interrupt
 
 -- a tick drains where nothing, the guest, or a thread that is open was on before it
 abbrev pub drains_at : List (Option Thread) → Option Who → Bool
 drains_at threads None = true
 drains_at threads (Some Guest) = true
-drains_at threads (Some (ThreadOn i)) = is_open (thread_at threads i)
+drains_at threads (Some (ThreadOn i)) = is_thread_open (thread_at threads i)
 drains_at threads (Some (Init n)) = false
 drains_at threads (Some (Irq line)) = false
 drains_at threads (Some (FifoOn f)) = false

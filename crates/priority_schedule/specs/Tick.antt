@@ -29,13 +29,13 @@ abbrev pub com2_lines : Option ℕ → List RLine
 com2_lines None = []
 com2_lines (Some byte) = Com2 byte ∷ []
 
-abbrev pub marked_with : Lines → ℕ → ℕ → ℕ
-marked_with irqs marked line = if is_held irqs line then with_line marked line else marked
+abbrev pub marked_if_held : Lines → ℕ → ℕ → ℕ
+marked_if_held irqs marked line = if is_held irqs line then with_line marked line else marked
 
 abbrev pub after_devices : List Event → RealTime → RealTime
 after_devices events m =
     with_com2 (sampled (all_received (com2_bytes events) (ticked m.com2)))
-    (record m { irqs = record m.irqs { marked = fold (marked_with m.irqs) m.irqs.marked (lines_of events) } })
+    (record m { irqs = record m.irqs { marked = fold (marked_if_held m.irqs) m.irqs.marked (lines_of events) } })
 
 unfoldable pub devices : List Event → Ticking → Ticking
 devices events s = record { real = after_devices events s.real; lines = s.lines ++ com2_lines (byte_sent s.real.com2) }

@@ -7,8 +7,8 @@ use Rattle.cpu_state.specs.declared.registers.Registers.{Registers}
 use Rattle.line_sets.specs.LineSet.{with_line}
 use Rattle.rt_irqs.specs.Irqs.{Lines, is_held}
 use Rattle.port_map.specs.Serial.{Serial, serial_ports, rose, reached}
-use Rattle.port_map.specs.declared.owner.Owner.TheVariants.{RealTime as RealTimeOwner}
-use Rattle.breach_monitor.specs.RealTimeUnit.{Outcome, real_time as real_time_outcome}
+use Rattle.port_map.specs.declared.com_port.ComPort.TheVariants.{Com2}
+use Rattle.breach_monitor.specs.RealTimeUnit.{Outcome, real_time_outcome}
 use Rattle.breach_monitor.specs.declared.real_time.RealTimeUnit.{RealTimeUnit}
 use Rattle.breach_monitor.specs.declared.real_time.RealTimeUnit.TheVariants.{Next, Gate as Gates, Return, Fault as Faults}
 use Rattle.line_kinds.specs.declared.kinds.FaultKind.{FaultKind}
@@ -95,7 +95,7 @@ gate_unit t who next m =
     gate_answer who (at_eip next registers) q m (gate t who q (parts_of m) (gate_of q.function))
 
 -- What the processor's unit came to: one instruction with CLI, STI, PUSHF and POPF on the activity's own IF, or the gate, the return,
--- or the first fault, in the order in which `real_time` names them
+-- or the first fault, in the order in which `real_time_outcome` names them
 
 abbrev pub came_to : ℕ → Who → Outcome Serial → RealTime → RealTimeUnit → RealUnit
 came_to t who o m Next = performed_unit who o m
@@ -105,7 +105,7 @@ came_to t who o m (Faults fault) = fault_unit who fault m
 
 -- over the side and COM2, whose line is sampled after each access to it
 unfoldable pub outcome_at : Registers → Side → Serial → Outcome Serial
-outcome_at registers side port = real_time_outcome (serial_ports RealTimeOwner) registers (reached side port)
+outcome_at registers side port = real_time_outcome (serial_ports Com2) registers (reached side port)
 
 unfoldable pub activity_unit : ℕ → Who → RealTime → RealUnit
 activity_unit t who m = let o = outcome_at (registers_of who m) m.side m.com2 in came_to t who o m o.answer

@@ -11,15 +11,15 @@ use Rattle.pit_8254.specs.Timer.{all_pulsed}
 use Rattle.uart_16550.specs.SerialPort.{line_of}
 use Rattle.device_script.specs.Event.{is_line, is_device_event}
 use Rattle.device_script.specs.declared.event.Event.{Event}
-use Rattle.device_script.specs.declared.event.Event.TheVariants.{Line, Com1, Com2}
+use Rattle.device_script.specs.declared.event.Event.TheVariants.{Line, Com1 as ForCom1, Com2 as ForCom2}
 use Rattle.port_map.specs.Serial.{Serial, rose}
 use Rattle.port_board.specs.Board.{Rising, rises_if, com1_sampled, sampled as board_sampled, pulsed_once, coms_ticked, event_done, events_done, AreEvents, device_step, accessed, rises_at_once, with_serial, rises_of, rises_taken}
-use Rattle.port_map.specs.declared.owner.Owner.TheVariants.{Guest}
+use Rattle.port_map.specs.declared.com_port.ComPort.TheVariants.{Com1}
 use Rattle.port_board.specs.declared.board.Board.{Board}
 use Rattle.device_script.specs.Events.{lines_of, com1_bytes}
 use Rattle.port_map.specs.SerialLine.{ticked, received, all_received, sampled}
 use Rattle.run_lines.specs.Says.{lines_asked}
-use Rattle.rt_core.specs.Machine.{com1_of, after_unit}
+use Rattle.rt_core.specs.Machine.{com1_of, board_after_unit}
 
 -- line 0 and line 3
 has-nine : (n : ℕ) → has 9 n ≡ (n == 0 || n == 3)
@@ -112,10 +112,10 @@ events_keep port r asked (Line n ∷ events) s are k =
     (record { com1 = k.com1; rises = k.rises; lines = minus-shown s.lines n (line_shown n parts.0) ∙ ap (λ x. with_line x n) k.lines }) in
     let asks : lines_asked 0 (n ∷ lines_of events) ≡ with_line (lines_asked 0 (lines_of events)) n = rw (has-zero n) refl in
     record { com1 = more.com1; rises = more.rises; lines = more.lines ∙ union-with asked (lines_asked 0 (lines_of events)) n ∙ ap (union asked) (sym asks) }
-events_keep port r asked (Com1 v ∷ events) s are k =
-    events_keep (received v port) r asked events (event_done (Com1 v) s) are (record { com1 = ap (received v) k.com1; rises = k.rises; lines = k.lines })
-events_keep port r asked (Com2 v ∷ events) s are k =
-    events_keep port r asked events (event_done (Com2 v) s) are (record { com1 = k.com1; rises = k.rises; lines = k.lines })
+events_keep port r asked (ForCom1 v ∷ events) s are k =
+    events_keep (received v port) r asked events (event_done (ForCom1 v) s) are (record { com1 = ap (received v) k.com1; rises = k.rises; lines = k.lines })
+events_keep port r asked (ForCom2 v ∷ events) s are k =
+    events_keep port r asked events (event_done (ForCom2 v) s) are (record { com1 = k.com1; rises = k.rises; lines = k.lines })
 
 com1_rise : (port : Serial) (r asked : ℕ) (b : Bool) (s : Rising) → Keeps port r asked s → Keeps port r (if b then with_line asked 4 else asked) (rises_if b 4 s)
 com1_rise port r asked true s k = record { com1 = k.com1; rises = k.rises; lines = minus-shown s.lines 4 refl ∙ ap (λ x. with_line x 4) k.lines }
@@ -176,37 +176,37 @@ device_steps b events pending are =
     }
 
 -- COM1 and its line after an access by the guest's unit
-accessed_port : (r : Bool) (port : Serial) (b : Board) → com1_of (rises_at_once r 4 (with_serial Guest port b)) ≡ port
+accessed_port : (r : Bool) (port : Serial) (b : Board) → com1_of (rises_at_once r 4 (with_serial Com1 port b)) ≡ port
 accessed_port true port b = refl
 accessed_port false port b = refl
 
 rise_marked : (r : Bool) (port : Serial) (b : Board) (pending : ℕ) → b.rises ≡ 0
-    → union pending (minus (rises_of (rises_at_once r 4 (with_serial Guest port b))) 9) ≡ (if r then with_line pending 4 else pending)
+    → union pending (minus (rises_of (rises_at_once r 4 (with_serial Com1 port b))) 9) ≡ (if r then with_line pending 4 else pending)
 rise_marked true port b pending none =
     let one : minus (with_line b.rises 4) 9 ≡ with_line 0 4 = minus-shown b.rises 4 refl ∙ ap (λ x. with_line (minus x 9) 4) none ∙ ap (λ x. with_line x 4) minus-none in
     ap (union pending) one ∙ union-one pending 4
 rise_marked false port b pending none = ap (λ x. union pending (minus x 9)) none ∙ ap (union pending) minus-none ∙ union-none pending
 
-pub unit_port : (b new : Board) (port : Serial) → new ≡ accessed Guest port b → com1_of new ≡ port
+pub unit_port : (b new : Board) (port : Serial) → new ≡ accessed Com1 port b → com1_of new ≡ port
 unit_port b new port same = ap com1_of same ∙ accessed_port (rose (com1_of b) port) port b
 
-pub unit_marks : (b new : Board) (port : Serial) (pending : ℕ) → new ≡ accessed Guest port b → b.rises ≡ 0
+pub unit_marks : (b new : Board) (port : Serial) (pending : ℕ) → new ≡ accessed Com1 port b → b.rises ≡ 0
     → union pending (minus (rises_of new) 9) ≡ (if rose (com1_of b) (com1_of (rises_taken new)) then with_line pending 4 else pending)
 unit_marks b new port pending same none =
     ap (λ x. union pending (minus (rises_of x) 9)) same ∙ rise_marked (rose (com1_of b) port) port b pending none
     ∙ ap (λ p. if rose (com1_of b) p then with_line pending 4 else pending) (sym (unit_port b new port same))
 
 -- the board after the unit, and after a unit that left it as it was
-pub unit_board : (b new after : Board) (port : Serial) → new ≡ accessed Guest port b → after ≡ rises_taken new → after ≡ after_unit (com1_of after) b
+pub unit_board : (b new after : Board) (port : Serial) → new ≡ accessed Com1 port b → after ≡ rises_taken new → after ≡ board_after_unit (com1_of after) b
 unit_board b new after port same taken =
-    taken ∙ ap rises_taken same ∙ ap (λ p. after_unit p b) (sym (ap com1_of taken ∙ unit_port b new port same))
+    taken ∙ ap rises_taken same ∙ ap (λ p. board_after_unit p b) (sym (ap com1_of taken ∙ unit_port b new port same))
 
 -- a port that stays as it is marks nothing
 no_rise : (h : Bool) → (h && not h) ≡ false
 no_rise true = refl
 no_rise false = refl
 
-pub untouched : (b : Board) → b.rises ≡ 0 → b ≡ after_unit (com1_of b) b
+pub untouched : (b : Board) → b.rises ≡ 0 → b ≡ board_after_unit (com1_of b) b
 untouched b none = ap (λ r. record b { rises = r }) none ∙ ap (λ x. rises_taken (rises_at_once x 4 b)) (sym (no_rise b.com1_high))
 
 same_port : (a : Serial) (pending : ℕ) → (if rose a a then with_line pending 4 else pending) ≡ pending

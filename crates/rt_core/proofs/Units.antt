@@ -4,7 +4,7 @@ use Rattle.flat_memory.specs.Parts.{Parts}
 use Rattle.cpu_state.specs.declared.registers.Registers.{Registers}
 use Rattle.i386_execute.specs.Unit.{address_behind}
 use Rattle.port_map.specs.Serial.{Serial}
-use Rattle.port_map.specs.declared.owner.Owner.TheVariants.{Guest as OfGuest}
+use Rattle.port_map.specs.declared.com_port.ComPort.TheVariants.{Com1}
 use Rattle.breach_monitor.specs.GuestUnit.{answer_to}
 use Rattle.breach_monitor.specs.SerialUnit.{unit_at}
 use Rattle.breach_monitor.specs.declared.guest.GuestUnit.{GuestUnit}
@@ -20,9 +20,9 @@ leaves_as named came com1 old new same l = subst (λ u. Leaves u com1 old new) (
 
 -- an instruction, by its answer
 pub instruction_by : (t : ℕ) (b : Bare) (unit : GuestUnit)
-    → unit ≡ answer_to b.registers.eip (address_behind b.registers b.side) (unit_at OfGuest b.registers b.side b.com1).answer
-    → instruction t b ≡ instruction_outcome t (unit_at OfGuest b.registers b.side b.com1) b unit
-instruction_by t b unit same = ap (instruction_outcome t (unit_at OfGuest b.registers b.side b.com1) b) (sym same)
+    → unit ≡ answer_to b.registers.eip (address_behind b.registers b.side) (unit_at Com1 b.registers b.side b.com1).answer
+    → instruction t b ≡ instruction_outcome t (unit_at Com1 b.registers b.side b.com1) b unit
+instruction_by t b unit same = ap (instruction_outcome t (unit_at Com1 b.registers b.side b.com1) b) (sym same)
 
 -- what begins where nothing has changed, begins where the unit began
 pub begins_there : (came : Bare → UnitOutcome) (m n : Parts) (r q : Registers) (s p : Serial) (g : Guest) (pending : ℕ) (lines : TickLines) (new : UnitParts)

@@ -1,11 +1,11 @@
 -- What a machine holds, and the bare machine that it stands for.
-use Rattle.std.specs.Prelude.{ℕ, Option, Some, None, List, [], length}
+use Rattle.std.specs.Prelude.{ℕ, Option, List, [], length}
 use Rattle.cpu_state.specs.declared.registers.Registers.{Registers}
 use Rattle.memory_model.specs.Side.{Side}
 use Rattle.flat_memory.specs.Parts.{Parts}
 use Rattle.device_script.specs.declared.event.Event.{Event}
 use Rattle.port_map.specs.Serial.{Serial}
-use Rattle.port_map.specs.declared.owner.Owner.TheVariants.{Guest as OfGuest}
+use Rattle.port_map.specs.declared.com_port.ComPort.TheVariants.{Com1}
 use Rattle.port_board.specs.Board.{serial_of, accessed, rises_taken, device_step}
 use Rattle.port_board.specs.declared.board.Board.{Board}
 use Rattle.line_kinds.specs.declared.kinds.GLine.{GLine}
@@ -30,7 +30,7 @@ guest_side memory = record { first = 0; bytes = memory.guest }
 
 -- COM1
 abbrev pub com1_of : Board → Serial
-com1_of board = serial_of OfGuest board
+com1_of board = serial_of Com1 board
 
 -- the bare machine over them. It has no timer yet, and no FIFOs
 abbrev pub bare_with : Parts → Registers → Serial → Guest → Bare
@@ -50,18 +50,18 @@ abbrev pub bare_of : MachineParts → Bare
 bare_of m = bare_with m.memory m.registers (com1_of m.board) m.guest
 
 -- the board after a unit of the guest that leaves COM1 so: where its line rose, that is latched, and all else on the board stays
-abbrev pub after_unit : Serial → Board → Board
-after_unit com1 board = rises_taken (accessed OfGuest com1 board)
+abbrev pub board_after_unit : Serial → Board → Board
+board_after_unit com1 board = rises_taken (accessed Com1 com1 board)
 
 -- the board after a tick with these events, whose unit leaves COM1 so
 abbrev pub board_after : List Event → Serial → Board → Board
-board_after events com1 board = after_unit com1 (device_step events board).board
+board_after events com1 board = board_after_unit com1 (device_step events board).board
 
 -- what the guest starts from
 abbrev pub start_of : Parts → ℕ → GuestStart
 start_of memory entry = record { bytes = memory.guest; entry = entry; size = length memory.guest; services = no_services }
 
 -- the lines of a unit that is done
-abbrev pub unit_lines : UnitOutcome → List GLine
-unit_lines (Done after lines) = lines
-unit_lines (Calls call place after) = []
+abbrev pub done_lines : UnitOutcome → List GLine
+done_lines (Done after lines) = lines
+done_lines (Calls call place after) = []

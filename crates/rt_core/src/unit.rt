@@ -3,7 +3,7 @@ ghost use Rattle.std.specs.Prelude.{◌≡◌, ◌≢◌, ◌≤◌, ◌<◌, �
 ghost use Rattle.flat_memory.specs.Side.{side_at};
 ghost use Rattle.line_sets.specs.LineSet.{with_line};
 ghost use Rattle.port_map.specs.Serial.{rose};
-ghost use Rattle.port_map.specs.declared.owner.Owner.TheVariants as owner;
+ghost use Rattle.port_map.specs.declared.com_port.ComPort.TheVariants as com_port;
 ghost use Rattle.port_board.specs.Board.{accessed, rises_of};
 ghost use Rattle.breach_monitor.specs.GuestUnit.{first_gate, last_gate};
 ghost use Rattle.soft_flags.specs.SoftFlags.{HasTableIn, is_open};
@@ -24,7 +24,7 @@ use cpu_state::{Access, Privileged, Registers};
 use flat_memory::{FlatMemory, Side};
 use pending_irqs::Pending;
 use port_board::Board;
-use port_map::Owner;
+use port_map::ComPort;
 use soft_entry::{Entry, enter};
 use soft_flags::SoftFlags;
 use soft_gates::{GateUnit, Services, gate};
@@ -77,12 +77,12 @@ fn breach_kind(breach: Breach) -> BreachKind
 #[tactic(auto, unfolding(breach_monitor::specs::SerialUnit::unit_at))]
 fn run_unit(memory: &mut FlatMemory, registers: &mut Registers, board: &mut Board) -> GuestUnit
     ensures performs { Performs (effect_on memory.old registers.old board.old) result memory.old memory.new registers.old registers.new }
-    ensures board { board.new ≡ accessed owner.Guest (effect_on memory.old registers.old board.old).bus.devices board.old }
+    ensures board { board.new ≡ accessed com_port.Com1 (effect_on memory.old registers.old board.old).bus.devices board.old }
     ensures unchanged { result ≢ GuestUnit.Next
         → (registers.new ≡ registers.old) × (memory.new ≡ memory.old) × (board.new ≡ board.old) }
 {
-    unit_of_serial(Owner::Guest);
-    unit_keeps_others(Owner::Guest);
+    unit_of_serial(ComPort::Com1);
+    unit_keeps_others(ComPort::Com1);
     guest_unit_on(registers, memory.guest(), board)
 }
 

@@ -29,12 +29,11 @@ use Rattle.run_lines.specs.Ticks.{stamped, lines_to}
 use Rattle.run_output.specs.Halves.{found, guest_in}
 use Rattle.schedule_laws.specs.Laws.{IsSolution}
 use Rattle.schedule_laws.proofs.Printed.{loses_nothing}
-use Rattle.run_stream.specs.Start.{guest_start}
 use Rattle.side_digest.specs.Digest.{digest}
 use Rattle.bare_machine.specs.Run.{end_line}
 use Rattle.run_stream.specs.Lines.{text_of, guest_lines_at, bare_at, shown_at, shown_to, lines_shown}
 use Rattle.rtlinux_top.specs.Run.{flat_run}
-use Rattle.rtlinux_top.specs.Solution.{WritesSolution, HasHalves, guest_alone, shown_of, quiet_start, guest_shown, real_shown}
+use Rattle.rtlinux_top.specs.Solution.{WritesSolution, HasHalves, guest_alone, shown_of, run_start, guest_shown, real_shown}
 use Rattle.rtlinux_top.specs.Answers.{AnswersTo}
 use Rattle.rtlinux_top.specs.Verdict.{verdict_of, verdict_output, flat_in}
 use Rattle.rtlinux_top.specs.Words.{Asked, Unknown, Flat, System}
@@ -133,11 +132,11 @@ found_alone : (lines : List (ℕ × GLine)) → found guest_in (map (λ (line : 
 found_alone [] = refl
 found_alone (line ∷ lines) = ap (λ rest. line ∷ rest) (found_alone lines)
 
-halves : (which : Shown) (run : AcceptedRun) (g : List (ℕ × GLine)) (r : List (ℕ × RLine)) → IsSolution (guest_start run) (quiet_start run) run.script.events run.ticks g r → HasHalves which (shown_of which run g r) g r
+halves : (which : Shown) (run : AcceptedRun) (g : List (ℕ × GLine)) (r : List (ℕ × RLine)) → IsSolution (run_start run) run.ticks g r → HasHalves which (shown_of which run g r) g r
 halves Guest run g r s = found_alone (take (length g - 1) g)
 halves Both run g r s = (
-  loses_nothing.of_guest false (guest_start run) (quiet_start run) run.script.events run.ticks r (calls_of g) ∙ sym s.guest_half,
-  loses_nothing.of_real false (guest_start run) (quiet_start run) run.script.events run.ticks r (calls_of g) ∙ sym s.real_half,
+  loses_nothing.of_guest false (run_start run) run.ticks r (calls_of g) ∙ sym s.guest_half,
+  loses_nothing.of_real false (run_start run) run.ticks r (calls_of g) ∙ sym s.real_half,
 )
 
 writes : (verdict : Verdict) (old new : Option (List ℕ)) → ((run : AcceptedRun) → verdict ≡ Ok run → 1 ≤ run.ticks) → new ≡ appended old (verdict_output verdict)

@@ -23,7 +23,7 @@ use Rattle.rt_timeline.specs.Dues.{come}
 use Rattle.priority_schedule.specs.Release.{Ticking, nearest, while_one, released}
 use Rattle.priority_schedule.specs.Run.{real_after, real_lines}
 use Rattle.priority_schedule.specs.State.{RealTime, RealTimeStart, first_state}
-use Rattle.priority_schedule.specs.Tick.{begun, com2_lines, marked_with, devices, turned_to, picked, acted, real_time_tick}
+use Rattle.priority_schedule.specs.Tick.{begun, com2_lines, marked_if_held, devices, turned_to, picked, acted, real_time_tick}
 use Rattle.priority_schedule.specs.Unit.{call_unit, marked_by}
 use Rattle.run_stream.specs.Lines.{guest_on}
 use Rattle.rtlinux_top.proofs.Idle.{IsIdle, new_idle, step_idle, none_sent}
@@ -58,9 +58,9 @@ none_at zero n = refl
 none_at (suc k) zero = refl
 none_at (suc k) (suc n) = none_at k n
 
-none_marked : (lines : List ℕ) → fold (marked_with no_lines) 0 lines ≡ 0
+none_marked : (lines : List ℕ) → fold (marked_if_held no_lines) 0 lines ≡ 0
 none_marked [] = refl
-none_marked (n ∷ ns) = ap (λ b. fold (marked_with no_lines) (if b then with_line 0 n else 0) ns) (none_at 16 n) ∙ none_marked ns
+none_marked (n ∷ ns) = ap (λ b. fold (marked_if_held no_lines) (if b then with_line 0 n else 0) ns) (none_at 16 n) ∙ none_marked ns
 
 three_free : (b : Bool) → marked_by b no_lines ≡ no_lines
 three_free true = refl

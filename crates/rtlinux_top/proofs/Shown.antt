@@ -22,7 +22,7 @@ use Rattle.run_files.specs.declared.run.Shown.TheVariants.{Both}
 use Rattle.run_stream.specs.Lines.{guest_on, guest_lines_at, bare_at, shown_at, lines_shown}
 use Rattle.run_stream.specs.Start.{guest_start}
 use Rattle.schedule_laws.specs.Laws.{IsSolution}
-use Rattle.rtlinux_top.specs.Solution.{quiet_start, real_shown, guest_shown}
+use Rattle.rtlinux_top.specs.Solution.{quiet_start, run_start, real_shown, guest_shown}
 use Rattle.rtlinux_top.proofs.Quiet.{start_on, real_after_is, real_lines_are, guest_on_to}
 use Rattle.rtlinux_top.proofs.Sight.{after_same, lines_same}
 use Rattle.rtlinux_top.proofs.Silence.{no_calls}
@@ -39,13 +39,13 @@ real_is side script (suc n) h =
 silent : (run : AcceptedRun) → calls_of (guest_shown run) ≡ []
 silent run = no_calls (guest_start run) run.script.events run.ticks (real_shown run) refl
 
-pub shows : (run : AcceptedRun) → 1 ≤ run.ticks → IsSolution (guest_start run) (quiet_start run) run.script.events run.ticks (guest_shown run) (real_shown run)
+pub shows : (run : AcceptedRun) → 1 ≤ run.ticks → IsSolution (run_start run) run.ticks (guest_shown run) (real_shown run)
 shows run h = record {
   guest_half = refl;
   real_half = sym (ap (real_time (quiet_start run) run.script.events run.ticks) (silent run) ∙ real_is (quiet_start run).side run.script.events run.ticks h);
 }
 
-pub no_other : (run : AcceptedRun) → 1 ≤ run.ticks → (g : List (ℕ × GLine)) (r : List (ℕ × RLine)) → IsSolution (guest_start run) (quiet_start run) run.script.events run.ticks g r
+pub no_other : (run : AcceptedRun) → 1 ≤ run.ticks → (g : List (ℕ × GLine)) (r : List (ℕ × RLine)) → IsSolution (run_start run) run.ticks g r
     → (g ≡ guest_shown run) × (r ≡ real_shown run)
 no_other run h g r sol =
     let script = run.script.events in
@@ -62,7 +62,7 @@ shows_guest run =
     ∙ ap (λ (x : Bare). lines_to (guest_lines_at run) n ++ stamped n (bare_end x)) (after_same (guest_start run) run.script.events guest_on n d n)
 
 pub shows_output : (run : AcceptedRun)
-    → lines_shown Both run ≡ run_output false (guest_start run) (quiet_start run) run.script.events run.ticks (real_shown run) (calls_of (guest_shown run))
+    → lines_shown Both run ≡ run_output false (run_start run) run.ticks (real_shown run) (calls_of (guest_shown run))
 unfolding shown_at
 shows_output run =
     let n = run.ticks in
@@ -72,13 +72,13 @@ shows_output run =
     let r = real_shown run in
     let d = run.sides.memory.real_time in
     let ends = λ (m : RealTime) (x : Bare). stamped n (map R (real_end m) ++ map G (bare_end x)) in
-    let both : ℕ → List Line = λ k. tick_lines false (real_lines start script [] k) (hardware_lines guest start script r [] k) (bare_lines guest script r k) in
+    let both : ℕ → List Line = λ k. tick_lines false (real_lines start script [] k) (hardware_lines (run_start run) r [] k) (bare_lines guest script r k) in
     let lines : List (ℕ × Line) = lines_to both n in
     let same : lines_to (shown_at Both run) n ≡ lines = lines_to-same (shown_at Both run) both n (λ k _.
     sym (ap (λ (ls : List RLine). tick_lines false ls [] (bare_lines guest script r k)) (real_lines_are start.side script k)
     ∙ ap (λ (ls : List GLine). tick_lines false (at_tick (suc k) guest_on) [] ls) (lines_same guest script guest_on n d k))) in
-    let quiet : lines_shown Both run ≡ run_output false guest start script n r [] =
+    let quiet : lines_shown Both run ≡ run_output false (run_start run) n r [] =
     ap (λ ls. ls ++ stamped n (map R (quiet_end d) ++ map G (bare_end (bare_at run n)))) same
     ∙ ap (λ (x : RealTime). lines ++ ends x (bare_at run n)) (sym (real_after_is start.side script n))
     ∙ ap (λ (x : Bare). lines ++ ends (real_after start script [] n) x) (sym (after_same guest script guest_on n d n)) in
-    quiet ∙ sym (ap (run_output false guest start script n r) (silent run))
+    quiet ∙ sym (ap (run_output false (run_start run) n r) (silent run))

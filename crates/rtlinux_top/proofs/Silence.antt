@@ -25,7 +25,7 @@ use Rattle.line_kinds.specs.declared.kinds.GLine.TheVariants.{Enter, Int as IntL
 use Rattle.line_kinds.specs.declared.kinds.RLine.{RLine}
 use Rattle.line_sets.specs.LineSet.{without_line}
 use Rattle.port_map.specs.Serial.{Serial}
-use Rattle.port_map.specs.declared.owner.Owner.TheVariants.{Guest}
+use Rattle.port_map.specs.declared.com_port.ComPort.TheVariants.{Com1}
 use Rattle.breach_monitor.specs.SerialUnit.{unit_at}
 use Rattle.port_map.specs.SerialLine.{byte_sent}
 use Rattle.line_kinds.specs.Calls.{Call, call_in}
@@ -128,7 +128,7 @@ if_silent false u v p q = q
 
 instruction_silent : (t : ℕ) (b : Bare) → b.services ≡ no_services → Silent (instruction t b)
 instruction_silent t b h =
-    let e = unit_at Guest b.registers b.side b.com1 in
+    let e = unit_at Com1 b.registers b.side b.com1 in
     came_silent t e b (answer_to b.registers.eip (address_behind b.registers b.side) e.answer) h
 
 unless_silent : (t : ℕ) (b : Bare) (o : Option ℕ) → b.services ≡ no_services → Silent (unless_entered t b o)

@@ -11,6 +11,7 @@ use Rattle.run_output.specs.Halves.{found, guest_in, real_time_in}
 use Rattle.schedule_laws.specs.Output.{run_output}
 use Rattle.bare_machine.specs.Run.{bare, bare_end}
 use Rattle.priority_schedule.specs.State.{RealTimeStart}
+use Rattle.hardware_lines.specs.RunStart.{RunStart}
 use Rattle.rt_core.specs.End.{quiet_end}
 use Rattle.run_files.specs.declared.run.AcceptedRun.{AcceptedRun}
 use Rattle.run_files.specs.declared.run.Shown.{Shown}
@@ -24,6 +25,10 @@ use Rattle.schedule_laws.specs.Laws.{IsSolution}
 abbrev pub quiet_start : AcceptedRun → RealTimeStart
 quiet_start run = record { version = 1; side = record { first = length run.sides.memory.guest; bytes = run.sides.memory.real_time }; inits = [] }
 
+-- what both machines of a run start from
+abbrev pub run_start : AcceptedRun → RunStart
+run_start run = record { guest = guest_start run; real = quiet_start run; script = run.script.events }
+
 -- the real-time lines of a run: the guest is on at tick 1, and the end lines
 abbrev pub real_shown : AcceptedRun → List (ℕ × RLine)
 real_shown run = guest_on ++ stamped run.ticks (quiet_end run.sides.memory.real_time)
@@ -36,13 +41,13 @@ guest_shown run = bare (guest_start run) run.script.events run.ticks (real_shown
 abbrev pub ShowsSolution : Type 0
 ShowsSolution =
     (run : AcceptedRun) → 1 ≤ run.ticks
-    → IsSolution (guest_start run) (quiet_start run) run.script.events run.ticks (guest_shown run) (real_shown run)
+    → IsSolution (run_start run) run.ticks (guest_shown run) (real_shown run)
 
 -- and no others do
 abbrev pub NoOther : Type 0
 NoOther =
     (run : AcceptedRun) → 1 ≤ run.ticks → (g : List (ℕ × GLine)) (r : List (ℕ × RLine))
-    → IsSolution (guest_start run) (quiet_start run) run.script.events run.ticks g r → (g ≡ guest_shown run) × (r ≡ real_shown run)
+    → IsSolution (run_start run) run.ticks g r → (g ≡ guest_shown run) × (r ≡ real_shown run)
 
 -- the guest's lines are those that the top call's clause names
 abbrev pub ShowsGuest : Type 0
@@ -53,7 +58,7 @@ ShowsGuest =
 abbrev pub ShowsOutput : Type 0
 ShowsOutput =
     (run : AcceptedRun)
-    → lines_shown Both run ≡ run_output false (guest_start run) (quiet_start run) run.script.events run.ticks (real_shown run) (calls_of (guest_shown run))
+    → lines_shown Both run ≡ run_output false (run_start run) run.ticks (real_shown run) (calls_of (guest_shown run))
 
 -- the guest's lines alone, without the last one, which is the digest of its side
 abbrev pub guest_alone : List (ℕ × GLine) → List (ℕ × Line)
@@ -62,7 +67,7 @@ guest_alone lines = map (λ (line : ℕ × GLine). (line.0, G line.1)) (take (le
 -- what is shown of a pair of lines: the guest's lines alone, or the output of both machines
 abbrev pub shown_of : Shown → AcceptedRun → List (ℕ × GLine) → List (ℕ × RLine) → List (ℕ × Line)
 shown_of Guest run g r = guest_alone g
-shown_of Both run g r = run_output false (guest_start run) (quiet_start run) run.script.events run.ticks r (calls_of g)
+shown_of Both run g r = run_output false (run_start run) run.ticks r (calls_of g)
 
 -- each half finds its lines among those that are shown, and no others: both of them all, or the guest alone its own but the last
 abbrev pub HasHalves : Shown → List (ℕ × Line) → List (ℕ × GLine) → List (ℕ × RLine) → Type 0
@@ -71,7 +76,7 @@ HasHalves Both lines g r = (found guest_in lines ≡ g) × (found real_time_in l
 
 -- a pair of lines is the solution of a run, and what was written is the text of what is shown of it
 pub record IsWritten (run : AcceptedRun) (g : List (ℕ × GLine)) (r : List (ℕ × RLine)) (old new : Option (List ℕ)) : Type 0 where
-  pub solution : IsSolution (guest_start run) (quiet_start run) run.script.events run.ticks g r
+  pub solution : IsSolution (run_start run) run.ticks g r
   pub halves : HasHalves run.shown (shown_of run.shown run g r) g r
   pub text : new ≡ appended old (text_of (shown_of run.shown run g r))
 

@@ -18,7 +18,6 @@ use Rattle.line_kinds.specs.declared.kinds.RLine.TheVariants.{On, Release}
 use Rattle.line_kinds.specs.declared.kinds.Who.{Who}
 use Rattle.line_kinds.specs.declared.kinds.Who.TheVariants.{Guest, Thread as ThreadOn, Init, Irq, Fifo as FifoOn}
 use Rattle.side_digest.specs.Digest.{digest}
-use Rattle.memory_model.specs.Side.{first_outside}
 use Rattle.port_map.specs.SerialLine.{byte_sent}
 use Rattle.line_kinds.specs.Calls.{Call, PutCall, GetCall}
 use Rattle.run_lines.specs.Calls.{call_at}
@@ -27,11 +26,11 @@ use Rattle.gate_table.specs.declared.names.GateName.TheVariants.{Gethrtime, Pthr
 use Rattle.gate_table.specs.Names.{gate_of}
 use Rattle.run_lines.specs.Says.{after_line_gate, after_line_result, after_owner, held}
 use Rattle.run_lines.specs.Ticks.{at_tick}
-use Rattle.rt_threads.specs.declared.threads.State.TheVariants.{Ready, Waiting}
-use Rattle.rt_threads.specs.Threads.{with_state, with_period, is_plan, is_priority, with_next, with_priority, with_thread, priority_of, free_number}
+use Rattle.rt_threads.specs.declared.threads.State.TheVariants.{Ready}
+use Rattle.rt_threads.specs.Threads.{with_state, with_thread, free_number}
 use Rattle.rt_constants.specs.declared.errors.TheConstants.{EBUSY, EINVAL}
 use Rattle.rt_constants.specs.Errors.{failed}
-use Rattle.gate_table.specs.Gates.{Request, GateParts, Answered, fails, succeeds, created, left, woken, deleted, suspended, gate_row, Range, range_of, gate_in}
+use Rattle.gate_table.specs.Gates.{Request, GateParts, Answered, created, woken, gate_row, Range, range_of, gate_in}
 use Rattle.priority_schedule.specs.Pick.{pick}
 use Rattle.rt_constants.specs.declared.limits.TheConstants.{THREADS_LIMIT}
 use Rattle.rt_timeline.specs.declared.timeline.ThreadDue.{ThreadDue}
@@ -44,6 +43,7 @@ use Rattle.priority_schedule.specs.Tick.{begun, com2_lines, after_devices, devic
 use Rattle.priority_schedule.specs.Unit.{RealUnit, with_registers, with_com2, performed_unit, fault_unit, return_unit, gate_answer, gate_line, printed_lines, call_unit, unit_of}
 use Rattle.run_lines.proofs.Seen.{IsAt, held-next}
 use Rattle.run_lines.proofs.AtTick.{run-at}
+use Rattle.schedule_laws.proofs.GateRows.{ChangesKeep, row_keeps, in_range}
 use Rattle.schedule_laws.proofs.UnitCases.{Kinds, every_kind}
 
 -- does a line have a handler?
@@ -92,10 +92,6 @@ holds_free handlers lines line free h = record {
 same_handlers : (a b : List (Option ℕ)) (lines : ℕ) → b ≡ a → Holds a lines → Holds b lines
 same_handlers a b lines e h = subst (λ xs. Holds xs lines) (sym e) h
 
-either_held : (p : GateParts) (b : Bool) (x y : Answered) → x.after.irqs.entries ≡ p.irqs.entries → y.after.irqs.entries ≡ p.irqs.entries → (if b then x else y).after.irqs.entries ≡ p.irqs.entries
-either_held p true x y e f = e
-either_held p false x y e f = f
-
 -- the gates that leave the held lines alone
 abbrev Leaves : GateName → Type 0
 Leaves RequestIrq = ⊥
@@ -116,48 +112,30 @@ soft_held irqs (Some line) = refl
 given_back_held : (irqs : Lines) (line : ℕ) → (soft_freed irqs line).entries ≡ irqs.entries
 given_back_held irqs line = elim (has_soft irqs line) as (λ b. (if b then record irqs { soft = without_line irqs.soft line } else irqs).entries ≡ irqs.entries) [ true ↦ refl | false ↦ refl ]
 
+abbrev Stays : GateParts → GateName → GateParts → Type 0
+Stays p g after = Leaves g → after.irqs.entries ≡ p.irqs.entries
+
+held_changes : (t : ℕ) (q : Request) (p : GateParts) → ChangesKeep t q p (Stays p)
+held_changes t q p = record {
+  same = λ g l. refl;
+  creates = λ l. created_held t q p (free_number p.threads);
+  deletes = λ l. refl;
+  suspends = λ l. refl;
+  wakes = λ live l. woken_held t q.ebx p;
+  has_period = λ l. refl;
+  waits = λ i l. refl;
+  has_priority = λ l. refl;
+  sleeps = λ i l. refl;
+  fifos = λ g fifos l. refl;
+  gets = λ fifos side l. refl;
+  requests = λ l. absurd l;
+  frees = λ l. absurd l;
+  takes_soft = λ l. soft_held p.irqs (free_soft_line p.irqs.soft);
+  frees_soft = λ l. given_back_held p.irqs q.ebx;
+}
+
 row_held : (t : ℕ) (who : Who) (q : Request) (p : GateParts) (g : GateName) → Leaves g → (gate_row t who q p g).after.irqs.entries ≡ p.irqs.entries
-row_held t who q p Gethrtime l = refl
-row_held t who q p PthreadCreate l = either_held p _ (created t q p (free_number p.threads)) (fails EINVAL p) (created_held t q p (free_number p.threads)) refl
-row_held t who q p PthreadDelete l = either_held p _ (succeeds 0 (deleted q.ebx p)) (fails EINVAL p) refl refl
-row_held t who q p PthreadSuspend l = either_held p _ (succeeds 0 (suspended q.ebx p)) (fails EINVAL p) refl refl
-row_held t who q p PthreadWakeup l = either_held p _ (succeeds 0 (woken t q.ebx p)) (fails EINVAL p) (woken_held t q.ebx p) refl
-row_held t who q p PthreadMakePeriodic l =
-    let done : Answered = succeeds 0 (left q.ebx (with_period q.ecx q.edx) p) in
-    either_held p _ (if is_plan q.ecx q.edx then done else fails EINVAL p) (fails EINVAL p) (either_held p _ done (fails EINVAL p) refl refl) refl
-row_held t (ThreadOn i) q p PthreadWait l = either_held p _ (succeeds 0 (left i with_next p)) (fails EINVAL p) refl refl
-row_held t Guest q p PthreadWait l = refl
-row_held t (Init i) q p PthreadWait l = refl
-row_held t (Irq i) q p PthreadWait l = refl
-row_held t (FifoOn i) q p PthreadWait l = refl
-row_held t (ThreadOn i) q p PthreadSelf l = refl
-row_held t Guest q p PthreadSelf l = refl
-row_held t (Init i) q p PthreadSelf l = refl
-row_held t (Irq i) q p PthreadSelf l = refl
-row_held t (FifoOn i) q p PthreadSelf l = refl
-row_held t who q p PthreadSetprio l =
-    let done : Answered = succeeds 0 (record p { threads = with_thread q.ebx (with_priority q.ecx) p.threads }) in
-    either_held p _ (if is_priority q.ecx then done else fails EINVAL p) (fails EINVAL p) (either_held p _ done (fails EINVAL p) refl refl) refl
-row_held t who q p PthreadGetprio l = either_held p _ (succeeds (priority_of p.threads q.ebx) p) (fails EINVAL p) refl refl
-row_held t who q p FifoCreate l = refl
-row_held t who q p FifoDestroy l = refl
-row_held t who q p FifoPut l = refl
-row_held t who q p FifoGet l = refl
-row_held t who q p FifoFlush l = refl
-row_held t who q p FifoCreateHandler l = refl
-row_held t who q p FifoCount l = refl
-row_held t who q p RequestIrq l = absurd l
-row_held t who q p FreeIrq l = absurd l
-row_held t who q p GetSoftIrq l = soft_held p.irqs (free_soft_line p.irqs.soft)
-row_held t who q p FreeSoftIrq l = given_back_held p.irqs q.ebx
-row_held t who q p PendIrq l = either_held p _ (succeeds 0 p) (fails EINVAL p) refl refl
-row_held t (ThreadOn i) q p Nanosleep l = either_held p _ (succeeds 0 (left i (with_state (Waiting (t + q.ebx))) p)) (fails EINVAL p) refl refl
-row_held t Guest q p Nanosleep l = refl
-row_held t (Init i) q p Nanosleep l = refl
-row_held t (Irq i) q p Nanosleep l = refl
-row_held t (FifoOn i) q p Nanosleep l = refl
-row_held t who q p Print l = refl
-row_held t who q p Other l = refl
+row_held t who q p g l = row_keeps t who q p (Stays p) (held_changes t q p) g l
 
 -- and their lines say nothing of them
 quiet_result : (g : GateName) (line lines : ℕ) (v : ℤ) → after_line_gate g line lines ≡ lines → after_line_result g line lines v ≡ lines
@@ -172,10 +150,6 @@ leaving : (t : ℕ) (who : Who) (q : Request) (p : GateParts) (lines : ℕ) (g :
 leaving t who q p lines g l e h =
     let a = gate_row t who q p g in
     subst (λ n. Holds a.after.irqs.entries n) (sym (quiet_result g q.ebx lines a.result e)) (same_handlers p.irqs.entries a.after.irqs.entries lines (row_held t who q p g l) h)
-
-either_holds : (P : Answered → Type 0) (b : Bool) (x y : Answered) → (b ≡ true → P x) → (b ≡ false → P y) → P (if b then x else y)
-either_holds P true x y p q = p refl
-either_holds P false x y p q = q refl
 
 small_line : (line : ℕ) → is_holdable line ≡ true → line < 16
 small_line line h = grind (arith, nat_tests)
@@ -230,15 +204,8 @@ abbrev IfHolds : Request → ℕ → GateName → Option Answered → Type 0
 IfHolds q lines g None = Unit {0}
 IfHolds q lines g (Some a) = RowHolds q lines g a
 
-either_option : (P : Option Answered → Type 0) (b : Bool) (x y : Option Answered) → P x → P y → P (if b then x else y)
-either_option P true x y p q = p
-either_option P false x y p q = q
-
 range_holds : (t : ℕ) (who : Who) (q : Request) (p : GateParts) (lines : ℕ) (g : GateName) (range : Option Range) → Holds p.irqs.entries lines → IfHolds q lines g (gate_in t who q p g range)
-range_holds t who q p lines g None h = row_holds t who q p lines g h
-range_holds t who q p lines g (Some range) h =
-    either_option (IfHolds q lines g) _ (Some (fails EINVAL p)) (if is_some (first_outside p.side range.place range.count) then None else Some (gate_row t who q p g))
-    h (either_option (IfHolds q lines g) _ None (Some (gate_row t who q p g)) tt (row_holds t who q p lines g h))
+range_holds t who q p lines g range h = in_range t who q p g (IfHolds q lines g) h tt (row_holds t who q p lines g h) range
 
 -- units
 

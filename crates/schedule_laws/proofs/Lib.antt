@@ -1,4 +1,5 @@
 mod UnitCases
+mod GateRows
 mod Solutions
 mod LongerLemmas
 mod Reading

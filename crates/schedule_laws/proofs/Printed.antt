@@ -7,7 +7,7 @@ use Rattle.schedule_laws.specs.Laws.{OutputLosesNothing}
 
 pub loses_nothing : OutputLosesNothing
 loses_nothing = record {
-  of_real = λ h guest start script n r calls. real_time_found h n (real_lines start script calls) (hardware_lines guest start script r calls) (bare_lines guest script r) (real_end (real_after start script calls n)) (bare_end (bare_after guest script r n));
-  of_guest = λ h guest start script n r calls. guest_found h n (real_lines start script calls) (hardware_lines guest start script r calls) (bare_lines guest script r) (real_end (real_after start script calls n)) (bare_end (bare_after guest script r n));
-  of_hardware = λ guest start script n r calls. hardware_found n (real_lines start script calls) (hardware_lines guest start script r calls) (bare_lines guest script r) (real_end (real_after start script calls n)) (bare_end (bare_after guest script r n));
+  of_real = λ h start n r calls. real_time_found h n (real_lines start.real start.script calls) (hardware_lines start r calls) (bare_lines start.guest start.script r) (real_end (real_after start.real start.script calls n)) (bare_end (bare_after start.guest start.script r n));
+  of_guest = λ h start n r calls. guest_found h n (real_lines start.real start.script calls) (hardware_lines start r calls) (bare_lines start.guest start.script r) (real_end (real_after start.real start.script calls n)) (bare_end (bare_after start.guest start.script r n));
+  of_hardware = λ start n r calls. hardware_found n (real_lines start.real start.script calls) (hardware_lines start r calls) (bare_lines start.guest start.script r) (real_end (real_after start.real start.script calls n)) (bare_end (bare_after start.guest start.script r n));
 }

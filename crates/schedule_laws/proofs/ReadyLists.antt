@@ -6,8 +6,6 @@ use Rattle.std.proofs.lemmas.List.{get_or-set_same, get_or-set_other}
 use Rattle.std.proofs.lemmas.List.Quantifiers.{position-Some}
 use Rattle.cpu_state.specs.Registers.{starting}
 use Rattle.cpu_state.specs.declared.registers.Registers.{Registers}
-use Rattle.memory_model.specs.Side.{first_outside}
-use Rattle.rt_constants.specs.declared.errors.TheConstants.{EINVAL}
 use Rattle.rt_constants.specs.declared.limits.TheConstants.{THREADS_LIMIT}
 use Rattle.line_kinds.specs.declared.kinds.Who.{Who}
 use Rattle.line_kinds.specs.declared.kinds.Who.TheVariants.{Guest, Thread as ThreadOn, Init, Irq, Fifo as FifoOn}
@@ -16,14 +14,13 @@ use Rattle.line_kinds.specs.Calls.{Call, PutCall, GetCall}
 use Rattle.device_script.specs.declared.event.Event.{Event}
 use Rattle.rt_threads.specs.declared.threads.Thread.{Thread}
 use Rattle.rt_threads.specs.declared.threads.State.TheVariants.{Ready, Waiting, Suspended}
-use Rattle.rt_threads.specs.Threads.{thread_at, is_live, is_ready_state, is_ready_in, due_of, priority_of, due_held, with_thread, with_state, with_period, with_next, with_priority, given_registers, new_thread, free_number, is_priority, is_plan}
+use Rattle.rt_threads.specs.Threads.{thread_at, is_live, is_ready_state, is_ready_in, due_of, due_held, with_thread, with_state, with_period, with_next, with_priority, given_registers, new_thread, free_number}
 use Rattle.rt_timeline.specs.declared.timeline.ThreadDue.{ThreadDue}
 use Rattle.rt_timeline.specs.Dues.{come}
 use Rattle.rt_ready.specs.Order.{Arrival, is_ready, without, joined, each_once}
 use Rattle.gate_table.specs.declared.names.GateName.{GateName}
-use Rattle.gate_table.specs.declared.names.GateName.TheVariants.{Gethrtime, PthreadCreate, PthreadDelete, PthreadSuspend, PthreadWakeup, PthreadMakePeriodic, PthreadWait, PthreadSelf, PthreadSetprio, PthreadGetprio, FifoCreate, FifoDestroy, FifoPut, FifoGet, FifoFlush, FifoCreateHandler, FifoCount, RequestIrq, FreeIrq, GetSoftIrq, FreeSoftIrq, PendIrq, Nanosleep, Print, Other}
 use Rattle.gate_table.specs.Names.{gate_of}
-use Rattle.gate_table.specs.Gates.{Request, GateParts, Answered, succeeds, fails, created, deleted, left, suspended, woken, gate_row, Range, range_of, gate_in, after_fault, after_return}
+use Rattle.gate_table.specs.Gates.{Request, GateParts, Answered, created, woken, gate_row, Range, range_of, gate_in, after_fault, after_return}
 use Rattle.run_lines.specs.Calls.{call_at}
 use Rattle.run_lines.specs.Ticks.{at_tick}
 use Rattle.priority_schedule.specs.Pick.{pick}
@@ -34,6 +31,7 @@ use Rattle.priority_schedule.specs.Tick.{begun, devices, is_on, started, turned_
 use Rattle.priority_schedule.specs.Unit.{RealUnit, with_registers, with_com2, gate_answer, call_unit, unit_of}
 use Rattle.priority_schedule.proofs.Dues.{come_of}
 use Rattle.schedule_laws.specs.Laws.{IsReadyList}
+use Rattle.schedule_laws.proofs.GateRows.{ChangesKeep, row_keeps, in_range}
 use Rattle.schedule_laws.proofs.UnitCases.{Kinds, every_kind}
 
 -- Lists of arrivals
@@ -197,14 +195,6 @@ none_ready (Some th) e = absurd cc
 abbrev ListOf : GateParts → Type 0
 ListOf p = IsReadyList p.threads p.ready
 
-either_list : (b : Bool) (x y : Answered) → ListOf x.after → ListOf y.after → ListOf (if b then x else y).after
-either_list true x y p q = p
-either_list false x y p q = q
-
-where_list : (b : Bool) (x y : Answered) → (b ≡ true → ListOf x.after) → ListOf y.after → ListOf (if b then x else y).after
-where_list true x y p q = p refl
-where_list false x y p q = q
-
 created_list : (t : ℕ) (q : Request) (p : GateParts) (o : Option ℕ) → free_number p.threads ≡ o → ListOf p → ListOf (created t q p o).after
 created_list t q p None e h = h
 created_list t q p (Some i) e h =
@@ -219,62 +209,37 @@ woken_gate t i p live h =
       | false ↦ λ e. woken_list p.threads p.ready i t live e h
     ] refl
 
+abbrev HasList : GateName → GateParts → Type 0
+HasList g p = ListOf p
+
+list_changes : (t : ℕ) (q : Request) (p : GateParts) → ListOf p → ChangesKeep t q p HasList
+list_changes t q p h = record {
+  same = λ g. h;
+  creates = created_list t q p (free_number p.threads) refl h;
+  deletes = leaves_list p.threads p.ready q.ebx None refl h;
+  suspends = left_list p.threads p.ready q.ebx (with_state Suspended) (λ th. refl) h;
+  wakes = λ live. woken_gate t q.ebx p live h;
+  has_period = left_list p.threads p.ready q.ebx (with_period q.ecx q.edx) (λ th. refl) h;
+  waits = λ i. left_list p.threads p.ready i with_next (λ th. refl) h;
+  has_priority = keeps_list p.threads p.ready q.ebx (with_priority q.ecx) (λ th. refl) h;
+  sleeps = λ i. left_list p.threads p.ready i (with_state (Waiting (t + q.ebx))) (λ th. refl) h;
+  fifos = λ g fifos. h;
+  gets = λ fifos side. h;
+  requests = h;
+  frees = h;
+  takes_soft = h;
+  frees_soft = h;
+}
+
 row_list : (t : ℕ) (who : Who) (q : Request) (p : GateParts) (g : GateName) → ListOf p → ListOf (gate_row t who q p g).after
-row_list t who q p Gethrtime h = h
-row_list t who q p PthreadCreate h = either_list _ (created t q p (free_number p.threads)) (fails EINVAL p) (created_list t q p (free_number p.threads) refl h) h
-row_list t who q p PthreadDelete h = either_list _ (succeeds 0 (deleted q.ebx p)) (fails EINVAL p) (leaves_list p.threads p.ready q.ebx None refl h) h
-row_list t who q p PthreadSuspend h = either_list _ (succeeds 0 (suspended q.ebx p)) (fails EINVAL p) (left_list p.threads p.ready q.ebx (with_state Suspended) (λ th. refl) h) h
-row_list t who q p PthreadWakeup h = where_list (is_live p.threads q.ebx) (succeeds 0 (woken t q.ebx p)) (fails EINVAL p) (λ live. woken_gate t q.ebx p live h) h
-row_list t who q p PthreadMakePeriodic h =
-    let done : Answered = succeeds 0 (left q.ebx (with_period q.ecx q.edx) p) in
-    either_list _ (if is_plan q.ecx q.edx then done else fails EINVAL p) (fails EINVAL p) (either_list _ done (fails EINVAL p) (left_list p.threads p.ready q.ebx (with_period q.ecx q.edx) (λ th. refl) h) h) h
-row_list t (ThreadOn i) q p PthreadWait h = either_list _ (succeeds 0 (left i with_next p)) (fails EINVAL p) (left_list p.threads p.ready i with_next (λ th. refl) h) h
-row_list t Guest q p PthreadWait h = h
-row_list t (Init i) q p PthreadWait h = h
-row_list t (Irq i) q p PthreadWait h = h
-row_list t (FifoOn i) q p PthreadWait h = h
-row_list t (ThreadOn i) q p PthreadSelf h = h
-row_list t Guest q p PthreadSelf h = h
-row_list t (Init i) q p PthreadSelf h = h
-row_list t (Irq i) q p PthreadSelf h = h
-row_list t (FifoOn i) q p PthreadSelf h = h
-row_list t who q p PthreadSetprio h =
-    let done : Answered = succeeds 0 (record p { threads = with_thread q.ebx (with_priority q.ecx) p.threads }) in
-    either_list _ (if is_priority q.ecx then done else fails EINVAL p) (fails EINVAL p) (either_list _ done (fails EINVAL p) (keeps_list p.threads p.ready q.ebx (with_priority q.ecx) (λ th. refl) h) h) h
-row_list t who q p PthreadGetprio h = either_list _ (succeeds (priority_of p.threads q.ebx) p) (fails EINVAL p) h h
-row_list t who q p FifoCreate h = h
-row_list t who q p FifoDestroy h = h
-row_list t who q p FifoPut h = h
-row_list t who q p FifoGet h = h
-row_list t who q p FifoFlush h = h
-row_list t who q p FifoCreateHandler h = h
-row_list t who q p FifoCount h = h
-row_list t who q p RequestIrq h = h
-row_list t who q p FreeIrq h = h
-row_list t who q p GetSoftIrq h = h
-row_list t who q p FreeSoftIrq h = h
-row_list t who q p PendIrq h = either_list _ (succeeds 0 p) (fails EINVAL p) h h
-row_list t (ThreadOn i) q p Nanosleep h = either_list _ (succeeds 0 (left i (with_state (Waiting (t + q.ebx))) p)) (fails EINVAL p) (left_list p.threads p.ready i (with_state (Waiting (t + q.ebx))) (λ th. refl) h) h
-row_list t Guest q p Nanosleep h = h
-row_list t (Init i) q p Nanosleep h = h
-row_list t (Irq i) q p Nanosleep h = h
-row_list t (FifoOn i) q p Nanosleep h = h
-row_list t who q p Print h = h
-row_list t who q p Other h = h
+row_list t who q p g h = row_keeps t who q p HasList (list_changes t q p h) g
 
 abbrev IfList : Option Answered → Type 0
 IfList None = Unit {0}
 IfList (Some a) = ListOf a.after
 
-either_option : (b : Bool) (x y : Option Answered) → IfList x → IfList y → IfList (if b then x else y)
-either_option true x y p q = p
-either_option false x y p q = q
-
 range_list : (t : ℕ) (who : Who) (q : Request) (p : GateParts) (g : GateName) (range : Option Range) → ListOf p → IfList (gate_in t who q p g range)
-range_list t who q p g None h = row_list t who q p g h
-range_list t who q p g (Some range) h =
-    either_option _ (Some (fails EINVAL p)) (if is_some (first_outside p.side range.place range.count) then None else Some (gate_row t who q p g)) h
-    (either_option _ None (Some (gate_row t who q p g)) tt (row_list t who q p g h))
+range_list t who q p g range h = in_range t who q p g IfList h tt (row_list t who q p g h) range
 
 -- Units
 

@@ -2,7 +2,7 @@
 use Rattle.std.proofs.Common.{◌≡◌, ℕ, ◌+◌, ◌-◌, ◌<◌, Bool, true, false, refl, sym, ap, ◌∙◌, List, [], ◌∷◌, ◌++◌, length, if◌then◌else◌, Option, Some, None, subst, set, ℤ, pos, negsuc, is_some, is_none, option_map}
 use Rattle.std.proofs.lemmas.List.{length-map, get_or-set_same}
 use Rattle.std.proofs.lemmas.List.Quantifiers.{position-Some}
-use Rattle.memory_model.specs.Side.{bytes_at, first_outside}
+use Rattle.memory_model.specs.Side.{bytes_at}
 use Rattle.cpu_state.specs.Registers.{starting}
 use Rattle.rt_constants.specs.declared.errors.TheConstants.{EINVAL}
 use Rattle.rt_irqs.specs.Irqs.{request_result, free_result, free_soft_line, line_result, free_soft_result}
@@ -17,6 +17,7 @@ use Rattle.gate_table.specs.declared.names.GateName.{GateName}
 use Rattle.gate_table.specs.declared.names.GateName.TheVariants.{Gethrtime, PthreadCreate, PthreadDelete, PthreadSuspend, PthreadWakeup, PthreadMakePeriodic, PthreadWait, PthreadSelf, PthreadSetprio, PthreadGetprio, FifoCreate, FifoDestroy, FifoPut, FifoGet, FifoFlush, FifoCreateHandler, FifoCount, RequestIrq, FreeIrq, GetSoftIrq, FreeSoftIrq, PendIrq, Nanosleep, Print, Other}
 use Rattle.gate_table.specs.Gates.{Request, GateParts, Answered, succeeds, fails, on_live, created, deleted, left, suspended, woken, of_thread, pthread_wait, pthread_setprio, nanosleep, gate_row, Range, range_of, gate_in, gate}
 use Rattle.priority_schedule.specs.Priority.{Seen, after_gate, after_result, caller_waits, is_in, leaves, joins, has_priority, ReadyLive}
+use Rattle.schedule_laws.proofs.GateRows.{in_range}
 use Rattle.schedule_laws.proofs.Reading.{Reads, priorities, priorities-kept, priorities-set, ready-ids, reads_left, reads_joined, reads_ended, ids-joined, priority_in_slot, joins_live, priority_live}
 
 abbrev pub ReadsParts : GateParts → Seen → Type 0
@@ -155,16 +156,8 @@ abbrev pub IfAnswered : Request → Seen → GateName → Option Answered → Ty
 IfAnswered q s g None = Unit {0}
 IfAnswered q s g (Some a) = RowReads q s g a
 
-either_option : (P : Option Answered → Type 0) (b : Bool) (x y : Option Answered) → P x → P y → P (if b then x else y)
-either_option P true x y p q = p
-either_option P false x y p q = q
-
 range_reads : (t : ℕ) (who : Who) (q : Request) (s : Seen) (p : GateParts) (g : GateName) (range : Option Range) → s.who ≡ Some who → ReadsParts p s → IfAnswered q s g (gate_in t who q p g range)
-range_reads t who q s p g None w r = row_reads t who q s p g w r
-range_reads t who q s p g (Some range) w r =
-    either_option (IfAnswered q s g) _ (Some (fails EINVAL p)) (if is_some (first_outside p.side range.place range.count) then None else Some (gate_row t who q p g))
-    r
-    (either_option (IfAnswered q s g) _ None (Some (gate_row t who q p g)) tt (row_reads t who q s p g w r))
+range_reads t who q s p g range w r = in_range t who q p g (IfAnswered q s g) r tt (row_reads t who q s p g w r) range
 
 pub gate_reads : (t : ℕ) (who : Who) (q : Request) (s : Seen) (p : GateParts) (g : GateName) → s.who ≡ Some who → ReadsParts p s → IfAnswered q s g (gate t who q p g)
 gate_reads t who q s p g w r = range_reads t who q s p g (range_of q g) w r

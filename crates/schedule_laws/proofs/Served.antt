@@ -6,10 +6,10 @@ use Rattle.std.proofs.lemmas.Bool.{cases_Bool}
 use Rattle.std.proofs.Math.Nat.{div-lt_iff_lt-mul}
 use Rattle.rt_threads.specs.Threads.{due_at}
 use Rattle.priority_schedule.proofs.Released.{all_released}
-use Rattle.bare_machine.specs.State.{GuestStart, first_state as first_bare}
+use Rattle.bare_machine.specs.State.{first_state as first_bare}
 use Rattle.bare_machine.specs.Run.{bare_after}
 use Rattle.rt_timeline.specs.Dues.{earlier_due, time_of, ticks_until, come}
-use Rattle.hardware_lines.specs.Hardware.{Hardware, Marking, Machines, latched, with_edges, with_if, both_rose, guest_due, nearest_due, with_set, rises_at, device_edges, device_step, drain_step, changes_owner, taken, unit_step, same_due, timer_step, machines_after, devices_of, chosen_of, marking, hardware_after, rising_order}
+use Rattle.hardware_lines.specs.Hardware.{Hardware, Marking, Machines, latched, with_edges, with_if, both_rose, guest_due, next_due, with_set, rises_at, device_edges, edge_step, drain_step, changes_owner, first_acknowledged, unit_step, same_due, timer_step, machines_after, devices_of, chosen_of, marking, hardware_after, rising_order}
 use Rattle.line_sets.proofs.LineSetLemmas.{has-with_same, has-with_other, has-without_other}
 use Rattle.line_sets.specs.LineSet.{has, with_line, without_line}
 use Rattle.device_script.specs.declared.event.Event.{Event}
@@ -20,7 +20,7 @@ use Rattle.hardware_lines.specs.Timely.{Ahead, Timely, IsTimely}
 use Rattle.rt_constants.specs.declared.limits.TheConstants.{THREADS_LIMIT}
 use Rattle.rt_timeline.specs.declared.timeline.ThreadDue.{ThreadDue}
 use Rattle.priority_schedule.specs.Release.{Ticking, nearest, while_one, released, drained, drains}
-use Rattle.priority_schedule.specs.State.{RealTime, RealTimeStart, first_state as first_real}
+use Rattle.priority_schedule.specs.State.{RealTime, first_state as first_real}
 use Rattle.priority_schedule.specs.Run.{real_after}
 use Rattle.priority_schedule.specs.Tick.{begun, devices, is_on, started, turned_to, picked, opened}
 use Rattle.line_kinds.specs.Calls.{Call}
@@ -32,6 +32,7 @@ use Rattle.line_kinds.specs.declared.kinds.HLine.TheVariants.{Ack}
 use Rattle.line_kinds.specs.declared.kinds.RLine.{RLine}
 use Rattle.line_kinds.specs.declared.kinds.RLine.TheVariants.{On}
 use Rattle.line_kinds.specs.declared.kinds.Who.{Who}
+use Rattle.hardware_lines.specs.RunStart.{RunStart}
 use Rattle.line_kinds.specs.declared.kinds.Who.TheVariants.{Guest, Thread, Init, Irq, Fifo}
 
 timely_stands : (rise : Option ℕ) (t : ℕ) (near : Option ℕ) → Timely true rise t near
@@ -169,25 +170,25 @@ Served k h m = IsTimely k (suc k) h m
 abbrev Stepped : ℕ → Hardware → Machines → Type 0
 Stepped t h m = IsTimely t t h m
 
-after_device : (k : ℕ) (events : List Event) (before stepped : Machines) (h : Hardware) (lines : List HLine) → Served k h before → Stepped (suc k) (device_step (suc k) events before stepped (record { hardware = h; lines = lines })).hardware before
+after_device : (k : ℕ) (events : List Event) (before stepped : Machines) (h : Hardware) (lines : List HLine) → Served k h before → Stepped (suc k) (edge_step (suc k) events before stepped (record { hardware = h; lines = lines })).hardware before
 after_device k events before stepped h lines s =
     let t = suc k in
     let edges = device_edges t events before stepped h in
     let list = filter (has edges) rising_order in
     record {
       ahead = ahead_device k h.rise s.ahead;
-      timely = timely_device (has h.latch 0) (has (latched h.latch list) 0) (rises_at t h.rise) h.rise t (nearest_due h.last before)
+      timely = timely_device (has h.latch 0) (has (latched h.latch list) 0) (rises_at t h.rise) h.rise t (next_due h.last before)
           (stays_latched h.latch list) (λ e. joins_latched h.latch edges (rise_edge (rises_at t h.rise) _ e)) s.timely;
     }
 
 -- where line 0 isn't latched then, no thread's due has come
 pub none_come : (t : ℕ) (h : Hardware) (m : Machines) → Stepped t h m → has h.latch 0 ≡ false → come t (nearest m.real.threads) ≡ None
 none_come t h m s e =
-    not_come t h.rise (nearest m.real.threads) (guest_due h.last m.bare) s.ahead (subst (λ b. Timely b h.rise t (nearest_due h.last m)) e s.timely)
+    not_come t h.rise (nearest m.real.threads) (guest_due h.last m.bare) s.ahead (subst (λ b. Timely b h.rise t (next_due h.last m)) e s.timely)
 
 pub guest_calm : (t : ℕ) (h : Hardware) (m : Machines) → Stepped t h m → has h.latch 0 ≡ false → IfSome (guest_due h.last m.bare) (λ due. t < due)
 guest_calm t h m s e =
-    guest_above t h.rise (time_of (nearest m.real.threads)) (guest_due h.last m.bare) s.ahead (subst (λ b. Timely b h.rise t (nearest_due h.last m)) e s.timely)
+    guest_above t h.rise (time_of (nearest m.real.threads)) (guest_due h.last m.bare) s.ahead (subst (λ b. Timely b h.rise t (next_due h.last m)) e s.timely)
 
 -- the drain
 
@@ -195,7 +196,7 @@ guest_calm t h m s e =
 abbrev Drained : ℕ → Hardware → Machines → Type 0
 Drained t h m = IsTimely t (suc t) h m
 
-near_same : (last : ℕ) (a b : Machines) → a.real.threads ≡ b.real.threads → a.bare.timer_start ≡ b.bare.timer_start → a.bare.timer_period ≡ b.bare.timer_period → nearest_due last a ≡ nearest_due last b
+near_same : (last : ℕ) (a b : Machines) → a.real.threads ≡ b.real.threads → a.bare.timer_start ≡ b.bare.timer_start → a.bare.timer_period ≡ b.bare.timer_period → next_due last a ≡ next_due last b
 near_same last a b e f g =
     ap (λ ts. earlier_due (time_of (nearest ts)) (guest_due last a.bare)) e
     ∙ ap (λ o. earlier_due (time_of (nearest b.real.threads)) o)
@@ -203,30 +204,30 @@ near_same last a b e f g =
     ∙ ap (λ y. if y == 0 then None else Some (b.bare.timer_start + ((last - b.bare.timer_start) / y + 1) * y)) g)
 
 after_drain : (t : ℕ) (d : Bool) (before chosen : Machines) (s : Marking) → Stepped t s.hardware before
-    → (d ≡ false → nearest_due s.hardware.last chosen ≡ nearest_due s.hardware.last before)
-    → (has s.hardware.latch 0 ≡ false → nearest_due s.hardware.last chosen ≡ nearest_due s.hardware.last before)
+    → (d ≡ false → next_due s.hardware.last chosen ≡ next_due s.hardware.last before)
+    → (has s.hardware.latch 0 ≡ false → next_due s.hardware.last chosen ≡ next_due s.hardware.last before)
     → Drained t (drain_step t d chosen s).hardware chosen
 after_drain t false before chosen s h closed same = record {
   ahead = h.ahead;
-  timely = timely_later (has s.hardware.latch 0) s.hardware.rise t (nearest_due s.hardware.last chosen)
+  timely = timely_later (has s.hardware.latch 0) s.hardware.rise t (next_due s.hardware.last chosen)
       (subst (λ n. Timely (has s.hardware.latch 0) s.hardware.rise t n) (sym (closed refl)) h.timely);
 }
 after_drain t true before chosen s h closed same =
     let acks : List HLine = s.lines ++ map Ack (in_order s.hardware.latch) in
     let cleared : Hardware = record s.hardware { latch = 0 } in
     let noted : Hardware = record s.hardware { latch = 0; last = t } in
-    let set : Marking = with_set t (nearest_due t chosen) (record { hardware = noted; lines = acks }) in
+    let set : Marking = with_set t (next_due t chosen) (record { hardware = noted; lines = acks }) in
     elim (has s.hardware.latch 0) as (λ b. has s.hardware.latch 0 ≡ b → Drained t (if b then set else record { hardware = cleared; lines = acks }).hardware chosen) [
       | true ↦ λ e. record {
-        ahead = set_rises t (nearest_due t chosen) (record { hardware = noted; lines = acks }) h.ahead;
-        timely = subst (λ l. Timely (has set.hardware.latch 0) set.hardware.rise (suc t) (nearest_due l chosen)) (sym (set_last t (nearest_due t chosen) (record { hardware = noted; lines = acks })))
-            (set_serves (has set.hardware.latch 0) t (nearest_due t chosen) (record { hardware = noted; lines = acks }));
+        ahead = set_rises t (next_due t chosen) (record { hardware = noted; lines = acks }) h.ahead;
+        timely = subst (λ l. Timely (has set.hardware.latch 0) set.hardware.rise (suc t) (next_due l chosen)) (sym (set_last t (next_due t chosen) (record { hardware = noted; lines = acks })))
+            (set_serves (has set.hardware.latch 0) t (next_due t chosen) (record { hardware = noted; lines = acks }));
       }
       | false ↦ λ e. record {
         ahead = h.ahead;
-        timely = timely_later (has 0 0) s.hardware.rise t (nearest_due s.hardware.last chosen)
+        timely = timely_later (has 0 0) s.hardware.rise t (next_due s.hardware.last chosen)
             (subst (λ n. Timely (has 0 0) s.hardware.rise t n) (sym (same e))
-            (timely_more (has s.hardware.latch 0) (has 0 0) s.hardware.rise t (nearest_due s.hardware.last before) (λ f. let clash : true ≡ false = sym f ∙ e in absurd cc) h.timely));
+            (timely_more (has s.hardware.latch 0) (has 0 0) s.hardware.rise t (next_due s.hardware.last before) (λ f. let clash : true ≡ false = sym f ∙ e in absurd cc) h.timely));
       }
     ] refl
 
@@ -257,17 +258,17 @@ not_first test [] h = tt
 not_first test (x ∷ xs) h =
     elim (test x) as (λ b. Firsts (cond b (x ∷ filter test xs) (filter test xs))) [ true ↦ h.0 | false ↦ not_first test xs h.1 ]
 
-taken_stays : (lines : List ℕ) (s : Marking) → Firsts lines → has s.hardware.latch 0 ≡ true → has (taken lines s).hardware.latch 0 ≡ true
-taken_stays [] s f h = h
-taken_stays (line ∷ lines) s f h =
+acknowledged_stays : (lines : List ℕ) (s : Marking) → Firsts lines → has s.hardware.latch 0 ≡ true → has (first_acknowledged lines s).hardware.latch 0 ≡ true
+acknowledged_stays [] s f h = h
+acknowledged_stays (line ∷ lines) s f h =
     elim (has s.hardware.latch line) as (λ b. has (if b then record { hardware = record s.hardware { latch = without_line s.hardware.latch line }; lines = s.lines ++ Ack line ∷ [] } else s).hardware.latch 0 ≡ true) [
       | true ↦ has-without_other s.hardware.latch line 0 (λ e. absurd (omega (arith, e, f))) ∙ h
       | false ↦ h
     ]
 
-taken_rise : (lines : List ℕ) (s : Marking) → ((taken lines s).hardware.rise ≡ s.hardware.rise) × ((taken lines s).hardware.last ≡ s.hardware.last)
-taken_rise [] s = (refl, refl)
-taken_rise (line ∷ lines) s =
+acknowledged_rise : (lines : List ℕ) (s : Marking) → ((first_acknowledged lines s).hardware.rise ≡ s.hardware.rise) × ((first_acknowledged lines s).hardware.last ≡ s.hardware.last)
+acknowledged_rise [] s = (refl, refl)
+acknowledged_rise (line ∷ lines) s =
     elim (has s.hardware.latch line) as (λ b. ((if b then record { hardware = record s.hardware { latch = without_line s.hardware.latch line }; lines = s.lines ++ Ack line ∷ [] } else s).hardware.rise ≡ s.hardware.rise)
     × ((if b then record { hardware = record s.hardware { latch = without_line s.hardware.latch line }; lines = s.lines ++ Ack line ∷ [] } else s).hardware.last ≡ s.hardware.last)) [
       | true ↦ (refl, refl)
@@ -278,14 +279,14 @@ after_unit_step : (t : ℕ) (chosen after : Machines) (s : Marking) → Drained 
 after_unit_step t chosen after s h =
     let e = with_edges (both_rose chosen after 0) s in
     let lines = filter (changes_owner chosen after) handler_order in
-    let p = taken_rise lines e in
+    let p = acknowledged_rise lines e in
     let u = unit_step chosen after s in
     record {
       ahead = subst (λ x. Ahead t x) (sym p.0) h.ahead;
-      timely = subst (λ x. Timely (has u.hardware.latch 0) x (suc t) (nearest_due u.hardware.last chosen)) (sym p.0)
-          (subst (λ l. Timely (has u.hardware.latch 0) s.hardware.rise (suc t) (nearest_due l chosen)) (sym p.1)
-          (timely_more (has s.hardware.latch 0) (has u.hardware.latch 0) s.hardware.rise (suc t) (nearest_due s.hardware.last chosen)
-          (λ f. taken_stays lines e (not_first (changes_owner chosen after) handler_order above_all)
+      timely = subst (λ x. Timely (has u.hardware.latch 0) x (suc t) (next_due u.hardware.last chosen)) (sym p.0)
+          (subst (λ l. Timely (has u.hardware.latch 0) s.hardware.rise (suc t) (next_due l chosen)) (sym p.1)
+          (timely_more (has s.hardware.latch 0) (has u.hardware.latch 0) s.hardware.rise (suc t) (next_due s.hardware.last chosen)
+          (λ f. acknowledged_stays lines e (not_first (changes_owner chosen after) handler_order above_all)
           (stays_latched s.hardware.latch (filter (has (both_rose chosen after 0)) rising_order) f)) h.timely));
     }
 
@@ -299,12 +300,12 @@ same_due_is (Some x) (Some y) h = ap (λ n. Some n) (let e : x ≡ y = grind (ar
 
 after_timer : (t : ℕ) (chosen after : Machines) (s : Marking) → Drained t s.hardware chosen → Served t (timer_step t chosen after s).hardware after
 after_timer t chosen after s h =
-    let near = nearest_due s.hardware.last after in
-    elim (same_due (nearest_due s.hardware.last chosen) near) as (λ b. same_due (nearest_due s.hardware.last chosen) near ≡ b → Served t (if b then s else with_set t near s).hardware after) [
-      | true ↦ λ e. record { ahead = h.ahead; timely = subst (λ n. Timely (has s.hardware.latch 0) s.hardware.rise (suc t) n) (same_due_is (nearest_due s.hardware.last chosen) near e) h.timely }
+    let near = next_due s.hardware.last after in
+    elim (same_due (next_due s.hardware.last chosen) near) as (λ b. same_due (next_due s.hardware.last chosen) near ≡ b → Served t (if b then s else with_set t near s).hardware after) [
+      | true ↦ λ e. record { ahead = h.ahead; timely = subst (λ n. Timely (has s.hardware.latch 0) s.hardware.rise (suc t) n) (same_due_is (next_due s.hardware.last chosen) near e) h.timely }
       | false ↦ λ e. record {
         ahead = set_rises t near s h.ahead;
-        timely = subst (λ l. Timely (has (with_set t near s).hardware.latch 0) (with_set t near s).hardware.rise (suc t) (nearest_due l after)) (sym (set_last t near s))
+        timely = subst (λ l. Timely (has (with_set t near s).hardware.latch 0) (with_set t near s).hardware.rise (suc t) (next_due l after)) (sym (set_last t near s))
             (set_serves (has (with_set t near s).hardware.latch 0) t near s);
       }
     ] refl
@@ -325,9 +326,9 @@ tick_served k events before after h s =
     let stepped = devices_of events before in
     let chosen = chosen_of t events before in
     let start : Marking = record { hardware = h; lines = [] } in
-    let d = device_step t events before stepped start in
+    let d = edge_step t events before stepped start in
     let a = after_device k events before stepped h [] s in
-    let same : (drains before.real ≡ false) ⊎ (come t (nearest before.real.threads) ≡ None) → nearest_due d.hardware.last chosen ≡ nearest_due d.hardware.last before =
+    let same : (drains before.real ≡ false) ⊎ (come t (nearest before.real.threads) ≡ None) → next_due d.hardware.last chosen ≡ next_due d.hardware.last before =
     λ c. near_same d.hardware.last chosen before (chosen_threads t events before.real c) refl refl in
     let b = after_drain t (drains before.real) before chosen d a (λ e. same (inl e)) (λ e. same (inr (none_come t d.hardware before a e))) in
     after_timer t chosen after (unit_step chosen after (drain_step t (drains before.real) chosen d))
@@ -369,7 +370,7 @@ drained_calm k events before h s few open_ =
     let t = suc k in
     let x = devices events (begun before.real) in
     let chosen = chosen_of t events before in
-    let d = device_step t events before (devices_of events before) (record { hardware = h; lines = [] }) in
+    let d = edge_step t events before (devices_of events before) (record { hardware = h; lines = [] }) in
     let a = after_device k events before (devices_of events before) h [] s in
     let threads : chosen.real.threads ≡ (drained true t x).real.threads =
     picked_threads (drains before.real) (drained (drains before.real) t x) ∙ ap (λ b. (drained b t x).real.threads) open_ in
@@ -377,16 +378,16 @@ drained_calm k events before h s few open_ =
     let acks : List HLine = d.lines ++ map Ack (in_order d.hardware.latch) in
     let noted : Hardware = record d.hardware { latch = 0; last = t } in
     let cleared : Hardware = record d.hardware { latch = 0 } in
-    let set : Marking = with_set t (nearest_due t chosen) (record { hardware = noted; lines = acks }) in
+    let set : Marking = with_set t (next_due t chosen) (record { hardware = noted; lines = acks }) in
     record {
       emptied = elim (has d.hardware.latch 0) as (λ b. (if b then set else record { hardware = cleared; lines = acks }).hardware.latch ≡ 0) [
-        | true ↦ set_latch t (nearest_due t chosen) (record { hardware = noted; lines = acks })
+        | true ↦ set_latch t (next_due t chosen) (record { hardware = noted; lines = acks })
         | false ↦ refl
       ];
       calm = record {
         of_threads = λ i. subst (λ ts. IfSome (due_at ts i) (λ due. t < due)) (sym threads) (all_released t x size i);
         of_guest = elim (has d.hardware.latch 0) as (λ b. has d.hardware.latch 0 ≡ b → IfSome (guest_due (if b then set else record { hardware = cleared; lines = acks }).hardware.last chosen.bare) (λ due. t < due)) [
-          | true ↦ λ e. subst (λ l. IfSome (guest_due l chosen.bare) (λ due. t < due)) (sym (set_last t (nearest_due t chosen) (record { hardware = noted; lines = acks }))) (guest_after t chosen.bare.timer_start chosen.bare.timer_period)
+          | true ↦ λ e. subst (λ l. IfSome (guest_due l chosen.bare) (λ due. t < due)) (sym (set_last t (next_due t chosen) (record { hardware = noted; lines = acks }))) (guest_after t chosen.bare.timer_start chosen.bare.timer_period)
           | false ↦ λ e. guest_calm t d.hardware before a e
         ] refl;
       };
@@ -394,28 +395,28 @@ drained_calm k events before h s few open_ =
 
 -- a run
 
-module _ (guest : GuestStart) (start : RealTimeStart) (script : List (ℕ × Event)) (r : List (ℕ × RLine)) (calls : List (ℕ × Call)) where
-  served_first : Served 0 (hardware_after guest start script r calls 0) (machines_after guest start script r calls 0)
+module _ (start : RunStart) (r : List (ℕ × RLine)) (calls : List (ℕ × Call)) where
+  served_first : Served 0 (hardware_after start r calls 0) (machines_after start r calls 0)
   unfolding hardware_after machines_after first_bare first_real bare_after real_after nearest
   served_first = record { ahead = tt; timely = tt }
 
-  pub run_served : (k : ℕ) → Served k (hardware_after guest start script r calls k) (machines_after guest start script r calls k)
+  pub run_served : (k : ℕ) → Served k (hardware_after start r calls k) (machines_after start r calls k)
   unfolding hardware_after
   run_served zero = served_first
-  run_served (suc k) = tick_served k (at_tick (suc k) script) (machines_after guest start script r calls k) (machines_after guest start script r calls (suc k)) (hardware_after guest start script r calls k) (run_served k)
+  run_served (suc k) = tick_served k (at_tick (suc k) start.script) (machines_after start r calls k) (machines_after start r calls (suc k)) (hardware_after start r calls k) (run_served k)
 
   -- after the device step of the tick after k ticks
-  pub run_stepped : (k : ℕ) → Stepped (suc k) (stepped_after guest start script r calls k) (machines_after guest start script r calls k)
+  pub run_stepped : (k : ℕ) → Stepped (suc k) (stepped_after start r calls k) (machines_after start r calls k)
   run_stepped k =
-      let events = at_tick (suc k) script in
-      let m = machines_after guest start script r calls k in
-      after_device k events m (devices_of events m) (hardware_after guest start script r calls k) [] (run_served k)
+      let events = at_tick (suc k) start.script in
+      let m = machines_after start r calls k in
+      after_device k events m (devices_of events m) (hardware_after start r calls k) [] (run_served k)
 
-  pub run_calm : (k : ℕ) → has (stepped_after guest start script r calls k).latch 0 ≡ false → NothingDue guest start script r calls k
+  pub run_calm : (k : ℕ) → has (stepped_after start r calls k).latch 0 ≡ false → NothingDue start r calls k
   run_calm k e =
-      let events = at_tick (suc k) script in
-      let m = machines_after guest start script r calls k in
-      let h = stepped_after guest start script r calls k in
+      let events = at_tick (suc k) start.script in
+      let m = machines_after start r calls k in
+      let h = stepped_after start r calls k in
       let none = none_come (suc k) h m (run_stepped k) e in
       record {
         calm = calm_at (suc k) h m (run_stepped k) e;

@@ -9,13 +9,14 @@ use Rattle.line_kinds.specs.Calls.{Call, call_in}
 use Rattle.run_lines.specs.Calls.{first_of}
 use Rattle.run_lines.specs.Says.{Sight, is_guest, held_by, after_owner, sight_from}
 use Rattle.run_lines.specs.Ticks.{at_tick, stamped, lines_to}
-use Rattle.bare_machine.specs.State.{Bare, GuestStart, UnitOutcome, first_state as first_bare}
+use Rattle.bare_machine.specs.State.{Bare, UnitOutcome, first_state as first_bare}
 use Rattle.bare_machine.specs.Run.{bare_end}
 use Rattle.bare_machine.specs.Tick.{bare_tick, com1_lines, guest_begins}
 use Rattle.bare_machine.specs.Unit.{unit_lines}
 use Rattle.priority_schedule.specs.Release.{Ticking}
 use Rattle.priority_schedule.specs.Run.{real_end}
-use Rattle.priority_schedule.specs.State.{RealTime, RealTimeStart, first_state as first_real}
+use Rattle.priority_schedule.specs.State.{RealTime, first_state as first_real}
+use Rattle.hardware_lines.specs.RunStart.{RunStart}
 use Rattle.priority_schedule.specs.Tick.{opened, acted}
 
 -- both states, with the holder and the lines that modules hold by the real-time lines so far
@@ -25,8 +26,8 @@ pub record Both : Type 0 where
   pub who : Option Who
   pub lines_held : ℕ
 
-abbrev pub first_both : GuestStart → RealTimeStart → Both
-first_both guest start = record { bare = first_bare guest; real = first_real start; who = None; lines_held = 0 }
+abbrev pub first_both : RunStart → Both
+first_both start = record { bare = first_bare start.guest; real = first_real start.real; who = None; lines_held = 0 }
 
 -- the real-time side up to its pick
 abbrev pub both_opened : ℕ → List Event → Both → Ticking
@@ -36,15 +37,15 @@ both_opened t events b = opened t events b.real
 abbrev pub both_unit : ℕ → List Event → Both → UnitOutcome
 both_unit t events b = guest_begins t events (is_guest (fold held_by b.who (both_opened t events b).lines)) b.lines_held b.bare
 
-unfoldable pub guest_lines : ℕ → List Event → Both → List GLine
-guest_lines t events b = com1_lines (byte_sent b.bare.com1) ++ unit_lines (both_unit t events b)
+unfoldable pub both_guest : ℕ → List Event → Both → List GLine
+both_guest t events b = com1_lines (byte_sent b.bare.com1) ++ unit_lines (both_unit t events b)
 
 -- its call
 abbrev pub call_among : List GLine → Option Call
 call_among lines = first_of (filter_map call_in lines)
 
 abbrev pub both_call : ℕ → List Event → Both → Option Call
-both_call t events b = call_among (guest_lines t events b)
+both_call t events b = call_among (both_guest t events b)
 
 -- the real-time side after its unit
 unfoldable pub both_real : ℕ → List Event → Both → Ticking
@@ -63,20 +64,20 @@ both_tick t events b = record {
 }
 
 -- after n ticks
-unfoldable pub both_after : GuestStart → RealTimeStart → List (ℕ × Event) → ℕ → Both
-both_after guest start script zero = first_both guest start
-both_after guest start script (suc n) = both_tick (suc n) (at_tick (suc n) script) (both_after guest start script n)
+unfoldable pub both_after : RunStart → ℕ → Both
+both_after start zero = first_both start
+both_after start (suc n) = both_tick (suc n) (at_tick (suc n) start.script) (both_after start n)
 
 -- the lines of the tick after n ticks
-unfoldable pub both_g : GuestStart → RealTimeStart → List (ℕ × Event) → ℕ → List GLine
-both_g guest start script n = guest_lines (suc n) (at_tick (suc n) script) (both_after guest start script n)
+unfoldable pub both_g : RunStart → ℕ → List GLine
+both_g start n = both_guest (suc n) (at_tick (suc n) start.script) (both_after start n)
 
-unfoldable pub both_r : GuestStart → RealTimeStart → List (ℕ × Event) → ℕ → List RLine
-both_r guest start script n = (both_real (suc n) (at_tick (suc n) script) (both_after guest start script n)).lines
+unfoldable pub both_r : RunStart → ℕ → List RLine
+both_r start n = (both_real (suc n) (at_tick (suc n) start.script) (both_after start n)).lines
 
 -- the lines of n ticks with their end lines
-unfoldable pub all_g : GuestStart → RealTimeStart → List (ℕ × Event) → ℕ → List (ℕ × GLine)
-all_g guest start script n = lines_to (both_g guest start script) n ++ stamped n (bare_end (both_after guest start script n).bare)
+unfoldable pub all_g : RunStart → ℕ → List (ℕ × GLine)
+all_g start n = lines_to (both_g start) n ++ stamped n (bare_end (both_after start n).bare)
 
-unfoldable pub all_r : GuestStart → RealTimeStart → List (ℕ × Event) → ℕ → List (ℕ × RLine)
-all_r guest start script n = lines_to (both_r guest start script) n ++ stamped n (real_end (both_after guest start script n).real)
+unfoldable pub all_r : RunStart → ℕ → List (ℕ × RLine)
+all_r start n = lines_to (both_r start) n ++ stamped n (real_end (both_after start n).real)

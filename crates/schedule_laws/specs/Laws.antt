@@ -26,24 +26,25 @@ use Rattle.priority_schedule.specs.State.{RealTime, RealTimeStart}
 use Rattle.priority_schedule.specs.Tick.{begun, devices, opened, real_time_tick}
 use Rattle.priority_schedule.specs.Unit.{unit_of}
 use Rattle.rt_constants.specs.declared.limits.TheConstants.{THREADS_LIMIT}
-use Rattle.hardware_lines.specs.Hardware.{Hardware, Machines, devices_of, chosen_of, device_step, drain_step, guest_due, hardware, hardware_after, machines_after, marking}
+use Rattle.hardware_lines.specs.Hardware.{Hardware, Machines, devices_of, chosen_of, edge_step, drain_step, guest_due, hardware, hardware_after, machines_after, marking}
 use Rattle.hardware_lines.specs.Timely.{IsTimely}
 use Rattle.run_output.specs.Halves.{found, real_time_in, guest_in, hardware_in}
+use Rattle.hardware_lines.specs.RunStart.{RunStart}
 use Rattle.schedule_laws.specs.Output.{run_lines, run_output}
 
 -- One solution. Guest lines and real-time lines that meet both equations: the guest's are those of the bare machine beside the
 -- real-time lines, and these are those of the schedule beside the guest's calls
 
-pub record IsSolution (guest : GuestStart) (start : RealTimeStart) (script : List (ℕ × Event)) (n : ℕ) (g : List (ℕ × GLine)) (r : List (ℕ × RLine)) : Type 0 where
-  pub guest_half : g ≡ bare guest script n r
-  pub real_half : r ≡ real_time start script n (calls_of g)
+pub record IsSolution (start : RunStart) (n : ℕ) (g : List (ℕ × GLine)) (r : List (ℕ × RLine)) : Type 0 where
+  pub guest_half : g ≡ bare start.guest start.script n r
+  pub real_half : r ≡ real_time start.real start.script n (calls_of g)
 
 -- there is one, and no other
 abbrev pub OneSolution : Type 0
 OneSolution =
-    (guest : GuestStart) (start : RealTimeStart) (script : List (ℕ × Event)) (n : ℕ)
-    → (g : List (ℕ × GLine)) × ((r : List (ℕ × RLine)) × (IsSolution guest start script n g r
-    × ((g' : List (ℕ × GLine)) (r' : List (ℕ × RLine)) → IsSolution guest start script n g' r' → (g' ≡ g) × (r' ≡ r))))
+    (start : RunStart) (n : ℕ)
+    → (g : List (ℕ × GLine)) × ((r : List (ℕ × RLine)) × (IsSolution start n g r
+    × ((g' : List (ℕ × GLine)) (r' : List (ℕ × RLine)) → IsSolution start n g' r' → (g' ≡ g) × (r' ≡ r))))
 
 -- Longer runs. The lines of n ticks without end lines are the first of those of n + m ticks: of each machine beside the same lines of
 -- the other
@@ -60,35 +61,35 @@ LongerBare =
 
 -- and of the solutions of n and of n + m ticks: the real-time lines, the guest's, the hardware's, and all in one order
 
-pub record GoesOn (guest : GuestStart) (start : RealTimeStart) (script : List (ℕ × Event)) (n m : ℕ) (g g' : List (ℕ × GLine)) (r r' : List (ℕ × RLine)) : Type 0 where
-  pub of_real : IsPrefixOf (real_run start script (calls_of g) n) (real_run start script (calls_of g') (n + m))
-  pub of_guest : IsPrefixOf (bare_run guest script r n) (bare_run guest script r' (n + m))
-  pub of_hardware : IsPrefixOf (hardware guest start script n r (calls_of g)) (hardware guest start script (n + m) r' (calls_of g'))
-  pub of_all : (hardware_too : Bool) → IsPrefixOf (run_lines hardware_too guest start script r (calls_of g) n) (run_lines hardware_too guest start script r' (calls_of g') (n + m))
+pub record GoesOn (start : RunStart) (n m : ℕ) (g g' : List (ℕ × GLine)) (r r' : List (ℕ × RLine)) : Type 0 where
+  pub of_real : IsPrefixOf (real_run start.real start.script (calls_of g) n) (real_run start.real start.script (calls_of g') (n + m))
+  pub of_guest : IsPrefixOf (bare_run start.guest start.script r n) (bare_run start.guest start.script r' (n + m))
+  pub of_hardware : IsPrefixOf (hardware start n r (calls_of g)) (hardware start (n + m) r' (calls_of g'))
+  pub of_all : (hardware_too : Bool) → IsPrefixOf (run_lines hardware_too start r (calls_of g) n) (run_lines hardware_too start r' (calls_of g') (n + m))
 
 abbrev pub LongerRuns : Type 0
 LongerRuns =
-    (guest : GuestStart) (start : RealTimeStart) (script : List (ℕ × Event)) (n m : ℕ) (g g' : List (ℕ × GLine)) (r r' : List (ℕ × RLine))
-    → IsSolution guest start script n g r → IsSolution guest start script (n + m) g' r' → GoesOn guest start script n m g g' r r'
+    (start : RunStart) (n m : ℕ) (g g' : List (ℕ × GLine)) (r r' : List (ℕ × RLine))
+    → IsSolution start n g r → IsSolution start (n + m) g' r' → GoesOn start n m g g' r r'
 
 -- What is printed. The real-time lines of an output are the run of the schedule, its guest lines that of the bare machine, and, where they
 -- are asked for, its hardware lines those of the hardware
 
 pub record OutputLosesNothing : Type 0 where
-  pub of_real : (h : Bool) (guest : GuestStart) (start : RealTimeStart) (script : List (ℕ × Event)) (n : ℕ) (r : List (ℕ × RLine)) (calls : List (ℕ × Call))
-      → found real_time_in (run_output h guest start script n r calls) ≡ real_time start script n calls
-  pub of_guest : (h : Bool) (guest : GuestStart) (start : RealTimeStart) (script : List (ℕ × Event)) (n : ℕ) (r : List (ℕ × RLine)) (calls : List (ℕ × Call))
-      → found guest_in (run_output h guest start script n r calls) ≡ bare guest script n r
-  pub of_hardware : (guest : GuestStart) (start : RealTimeStart) (script : List (ℕ × Event)) (n : ℕ) (r : List (ℕ × RLine)) (calls : List (ℕ × Call))
-      → found hardware_in (run_output true guest start script n r calls) ≡ hardware guest start script n r calls
+  pub of_real : (h : Bool) (start : RunStart) (n : ℕ) (r : List (ℕ × RLine)) (calls : List (ℕ × Call))
+      → found real_time_in (run_output h start n r calls) ≡ real_time start.real start.script n calls
+  pub of_guest : (h : Bool) (start : RunStart) (n : ℕ) (r : List (ℕ × RLine)) (calls : List (ℕ × Call))
+      → found guest_in (run_output h start n r calls) ≡ bare start.guest start.script n r
+  pub of_hardware : (start : RunStart) (n : ℕ) (r : List (ℕ × RLine)) (calls : List (ℕ × Call))
+      → found hardware_in (run_output true start n r calls) ≡ hardware start n r calls
 
 -- Two guests that make equal calls have equal real-time lines
 
 abbrev pub TwoGuests : Type 0
 TwoGuests =
-    (guest guest' : GuestStart) (start : RealTimeStart) (script : List (ℕ × Event)) (n : ℕ)
+    (start : RunStart) (guest' : GuestStart) (n : ℕ)
     (g g' : List (ℕ × GLine)) (r r' : List (ℕ × RLine))
-    → IsSolution guest start script n g r → IsSolution guest' start script n g' r' → calls_of g ≡ calls_of g' → r ≡ r'
+    → IsSolution start n g r → IsSolution (record start { guest = guest' }) n g' r' → calls_of g ≡ calls_of g' → r ≡ r'
 
 -- Priority. The real-time lines of every run keep the law, beside any calls
 
@@ -128,7 +129,7 @@ NoneReleased t events m = (draining : Bool) → let s = devices events (begun m)
 
 -- the hardware after a device step
 abbrev pub stepped_from : ℕ → List Event → Machines → Hardware → Hardware
-stepped_from t events m h = (device_step t events m (devices_of events m) (record { hardware = h; lines = [] })).hardware
+stepped_from t events m h = (edge_step t events m (devices_of events m) (record { hardware = h; lines = [] })).hardware
 
 pub record StepTimely (k : ℕ) (events : List Event) (before after : Machines) (h : Hardware) : Type 0 where
   pub devices : IsTimely (suc k) (suc k) (stepped_from (suc k) events before h) before
@@ -145,7 +146,7 @@ TickTimely =
 
 abbrev pub drained_from : ℕ → List Event → Machines → Hardware → Hardware
 drained_from t events m h =
-    (drain_step t true (chosen_of t events m) (device_step t events m (devices_of events m) (record { hardware = h; lines = [] }))).hardware
+    (drain_step t true (chosen_of t events m) (edge_step t events m (devices_of events m) (record { hardware = h; lines = [] }))).hardware
 
 pub record IsDrained (t : ℕ) (h : Hardware) (m : Machines) : Type 0 where
   pub emptied : h.latch ≡ 0
@@ -162,24 +163,24 @@ DrainedCalm =
 
 abbrev pub AlwaysTimely : Type 0
 AlwaysTimely =
-    (guest : GuestStart) (start : RealTimeStart) (script : List (ℕ × Event)) (r : List (ℕ × RLine)) (calls : List (ℕ × Call)) (k : ℕ)
-    → IsTimely k (suc k) (hardware_after guest start script r calls k) (machines_after guest start script r calls k)
+    (start : RunStart) (r : List (ℕ × RLine)) (calls : List (ℕ × Call)) (k : ℕ)
+    → IsTimely k (suc k) (hardware_after start r calls k) (machines_after start r calls k)
 
 -- the hardware after the device step of the tick after k ticks
-abbrev pub stepped_after : GuestStart → RealTimeStart → List (ℕ × Event) → List (ℕ × RLine) → List (ℕ × Call) → ℕ → Hardware
-stepped_after guest start script r calls k =
-    stepped_from (suc k) (at_tick (suc k) script) (machines_after guest start script r calls k) (hardware_after guest start script r calls k)
+abbrev pub stepped_after : RunStart → List (ℕ × RLine) → List (ℕ × Call) → ℕ → Hardware
+stepped_after start r calls k =
+    stepped_from (suc k) (at_tick (suc k) start.script) (machines_after start r calls k) (hardware_after start r calls k)
 
 -- where line 0 isn't latched after the device step of a tick, every due is above it. So the releases of the tick are none, whether or
 -- not it drains
-pub record NothingDue (guest : GuestStart) (start : RealTimeStart) (script : List (ℕ × Event)) (r : List (ℕ × RLine)) (calls : List (ℕ × Call)) (k : ℕ) : Type 0 where
-  pub calm : IsCalm (suc k) (stepped_after guest start script r calls k) (machines_after guest start script r calls k)
-  pub none_released : NoneReleased (suc k) (at_tick (suc k) script) (machines_after guest start script r calls k).real
+pub record NothingDue (start : RunStart) (r : List (ℕ × RLine)) (calls : List (ℕ × Call)) (k : ℕ) : Type 0 where
+  pub calm : IsCalm (suc k) (stepped_after start r calls k) (machines_after start r calls k)
+  pub none_released : NoneReleased (suc k) (at_tick (suc k) start.script) (machines_after start r calls k).real
 
 abbrev pub CalmUnlatched : Type 0
 CalmUnlatched =
-    (guest : GuestStart) (start : RealTimeStart) (script : List (ℕ × Event)) (r : List (ℕ × RLine)) (calls : List (ℕ × Call)) (k : ℕ)
-    → has (stepped_after guest start script r calls k).latch 0 ≡ false → NothingDue guest start script r calls k
+    (start : RunStart) (r : List (ℕ × RLine)) (calls : List (ℕ × Call)) (k : ℕ)
+    → has (stepped_after start r calls k).latch 0 ≡ false → NothingDue start r calls k
 
 -- The guest is picked only in a tick that drains: from any state in which a thread that is on is ready, and so in every run
 

@@ -28,7 +28,7 @@ use Rattle.i386_execute.specs.Products.{multiplied, signed_multiplied, divided}
 use Rattle.i386_execute.specs.Stack.{pushed, all_pushed, top_touches, popped, all_touches, all_popped, frame_touches, leave, called, returned, jumped}
 use Rattle.i386_execute.specs.Unit.{performed, unit, address_behind}
 use Rattle.port_map.specs.Serial.{byte_of, after_byte, byte_written}
-use Rattle.breach_monitor.specs.RealTimeUnit.{real_time}
+use Rattle.breach_monitor.specs.RealTimeUnit.{real_time_outcome}
 use Rattle.soft_entry.specs.Entry.{entering}
 use Rattle.soft_gates.specs.Gate.{gated}
 use Rattle.soft_gates.specs.Service.{service}
@@ -55,9 +55,9 @@ use Rattle.priority_schedule.specs.State.{first_state as priority_schedule_first
 use Rattle.priority_schedule.specs.Tick.{devices, picked}
 use Rattle.priority_schedule.specs.Unit.{outcome_at, activity_unit, call_unit}
 use Rattle.hardware_lines.specs.Hardware.{machines_after, hardware_after, hardware_lines}
-use Rattle.schedule_laws.specs.Both.{guest_lines, both_real, both_after, both_g, both_r, all_g, all_r}
+use Rattle.schedule_laws.specs.Both.{both_guest, both_real, both_after, both_g, both_r, all_g, all_r}
 use Rattle.schedule_rows.specs.Machines.{guest_of, module_of, no_module}
 
 unfoldable pub computing : Bool
-unfolding form_of fields_at entry_read answer decode_of entry_of one_byte two_byte group_row binary_of bit_of condition_of fill_of double_shift_of multiply_of divide_of scan_of single_of overflow_of shift_of unary_of iterated is_last iteration combined compared altered shifted double_shifted tested_touches tested bit_changed scanned change flags_by flag_changed sahf lahf port_read port_written interrupted interrupted_on_overflow branched looped jumped_at_zero first_touches second_touches both_touches loads copied exchanged extended_touches zero_extended sign_extended widened sign_spread addressed table_touches translated set_where flag_change flag_unit multiplied signed_multiplied divided pushed all_pushed top_touches popped all_touches all_popped frame_touches leave called returned jumped performed unit address_behind byte_of after_byte byte_written real_time entering service gated union common minus with_line without_line first_in in_order next_of free_soft_line gate_of holder held lines_to unit_at starting first_outside new_serial ticked byte_sent received sampled bare_after bare_lines first_state prepared guest_begins guest_unit put_reply get_reply with_mark without_mark without_handler first_place seen nearest released real_after real_lines priority_schedule_first_state devices picked outcome_at activity_unit call_unit machines_after hardware_after hardware_lines guest_lines both_real both_after both_g both_r all_g all_r guest_of module_of no_module ones
+unfolding form_of fields_at entry_read answer decode_of entry_of one_byte two_byte group_row binary_of bit_of condition_of fill_of double_shift_of multiply_of divide_of scan_of single_of overflow_of shift_of unary_of iterated is_last iteration combined compared altered shifted double_shifted tested_touches tested bit_changed scanned change flags_by flag_changed sahf lahf port_read port_written interrupted interrupted_on_overflow branched looped jumped_at_zero first_touches second_touches both_touches loads copied exchanged extended_touches zero_extended sign_extended widened sign_spread addressed table_touches translated set_where flag_change flag_unit multiplied signed_multiplied divided pushed all_pushed top_touches popped all_touches all_popped frame_touches leave called returned jumped performed unit address_behind byte_of after_byte byte_written real_time_outcome entering service gated union common minus with_line without_line first_in in_order next_of free_soft_line gate_of holder held lines_to unit_at starting first_outside new_serial ticked byte_sent received sampled bare_after bare_lines first_state prepared guest_begins guest_unit put_reply get_reply with_mark without_mark without_handler first_place seen nearest released real_after real_lines priority_schedule_first_state devices picked outcome_at activity_unit call_unit machines_after hardware_after hardware_lines both_guest both_real both_after both_g both_r all_g all_r guest_of module_of no_module ones
 computing = true

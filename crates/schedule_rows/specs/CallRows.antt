@@ -8,8 +8,8 @@ use Rattle.schedule_rows.specs.Machines.{module_of, r_of, g_of}
 use Rattle.schedule_rows.specs.Programs.{idle, calling_guest, owner_module, fifo_module}
 
 -- A line that a module takes goes to its handler from then on
-abbrev pub Owner : Type 0
-Owner = r_of idle (module_of 1 owner_module) ((2, Line 9) ∷ (8, Line 9) ∷ []) 10
+abbrev pub OwnerModule : Type 0
+OwnerModule = r_of idle (module_of 1 owner_module) ((2, Line 9) ∷ (8, Line 9) ∷ []) 10
     ≡ (1, On (Init 0)) ∷ (4, Gate 18 (0x9 ∷ 0x11012 ∷ 0x0 ∷ 0x0 ∷ []) (pos 0)) ∷ (6, Ret) ∷ (7, On Guest) ∷ (8, On (Irq 9))
     ∷ (9, Ret) ∷ (10, On Guest) ∷ []
 

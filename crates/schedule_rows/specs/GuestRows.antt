@@ -5,6 +5,7 @@ use Rattle.line_kinds.specs.declared.kinds.GLine.TheVariants.{Com1, Enter, Int a
 use Rattle.line_kinds.specs.declared.kinds.Mode.TheVariants.{Runs}
 use Rattle.bare_machine.specs.State.{GuestStart}
 use Rattle.schedule_rows.specs.Machines.{bytes_in, guest_of, no_module, g_of, guest_end}
+use Rattle.schedule_rows.specs.Programs.{pending_guest}
 
 -- A divide error enters vector 0 through the table at 20h, and the handler pops the EIP of the instruction
 abbrev pub divides_guest : GuestStart
@@ -30,9 +31,6 @@ Sends = (g_of sends_guest no_module [] 36 ≡ (36, Com1 0x41) ∷ [])
     × (guest_end sends_guest no_module [] 36 ≡ End Runs (0x7 ∷ 0x2 ∷ 0x41 ∷ 0x0 ∷ 0x3f8 ∷ 0x0 ∷ 0x80 ∷ 0 ∷ 0 ∷ 0 ∷ []))
 
 -- Two edges of line 5 give one entry, once the flag is set and its shadow has ended
-abbrev pub pending_guest : GuestStart
-pending_guest = guest_of 448 ((0, bytes_in (codes "b801000000 bb80000000 b926000000 cdf6 b802000000 31db cdf6 cdf1 41 41 ebfd")) ∷ (0x40, bytes_in (codes "42 cdf2")) ∷ (0x1a8, bytes_in (codes "40000800008e0000")) ∷ [])
-
 abbrev pub Pending : Type 0
 Pending = (g_of pending_guest no_module ((3, Line 5) ∷ (4, Line 5) ∷ []) 13 ≡ (10, Enter 37) ∷ [])
     × (guest_end pending_guest no_module ((3, Line 5) ∷ (4, Line 5) ∷ []) 13 ≡ End Runs (0x1e ∷ 0x206 ∷ 0x0 ∷ 0x28 ∷ 0x1 ∷ 0x0 ∷ 0x1c0 ∷ 0 ∷ 0 ∷ 0 ∷ []))

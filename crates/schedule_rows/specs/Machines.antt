@@ -12,6 +12,7 @@ use Rattle.bare_machine.specs.State.{GuestStart, all_services}
 use Rattle.priority_schedule.specs.Run.{real_end}
 use Rattle.priority_schedule.specs.State.{RealTimeStart}
 use Rattle.hardware_lines.specs.Hardware.{hardware}
+use Rattle.hardware_lines.specs.RunStart.{RunStart}
 use Rattle.schedule_laws.specs.Output.{run_lines}
 use Rattle.schedule_laws.specs.Both.{both_after, both_r, both_g, all_g, all_r}
 
@@ -46,25 +47,29 @@ module_of version bytes = record {
 unfoldable pub no_module : RealTimeStart
 no_module = record { version = 1; side = record { first = 0x10ff0; bytes = placed ((0, 0xcd ∷ 0xf9 ∷ []) ∷ []) (replicate 64 0) }; inits = [] }
 
+-- both of them beside a script
+abbrev pub run_of : GuestStart → RealTimeStart → List (ℕ × Event) → RunStart
+run_of guest real script = record { guest = guest; real = real; script = script }
+
 -- the lines of n ticks without end lines
 
 abbrev pub r_of : GuestStart → RealTimeStart → List (ℕ × Event) → ℕ → List (ℕ × RLine)
-r_of guest start script n = lines_to (both_r guest start script) n
+r_of guest real script n = lines_to (both_r (run_of guest real script)) n
 
 abbrev pub g_of : GuestStart → RealTimeStart → List (ℕ × Event) → ℕ → List (ℕ × GLine)
-g_of guest start script n = lines_to (both_g guest start script) n
+g_of guest real script n = lines_to (both_g (run_of guest real script)) n
 
 abbrev pub h_of : GuestStart → RealTimeStart → List (ℕ × Event) → ℕ → List (ℕ × HLine)
-h_of guest start script n = hardware guest start script n (all_r guest start script n) (calls_of (all_g guest start script n))
+h_of guest real script n = hardware (run_of guest real script) n (all_r (run_of guest real script) n) (calls_of (all_g (run_of guest real script) n))
 
 -- all of them in one order
 abbrev pub output_of : GuestStart → RealTimeStart → List (ℕ × Event) → ℕ → List (ℕ × Line)
-output_of guest start script n = run_lines true guest start script (all_r guest start script n) (calls_of (all_g guest start script n)) n
+output_of guest real script n = run_lines true (run_of guest real script) (all_r (run_of guest real script) n) (calls_of (all_g (run_of guest real script) n)) n
 
 -- the guest's first end line after n ticks
 abbrev pub guest_end : GuestStart → RealTimeStart → List (ℕ × Event) → ℕ → GLine
-guest_end guest start script n = end_line (both_after guest start script n).bare
+guest_end guest real script n = end_line (both_after (run_of guest real script) n).bare
 
 -- and the real-time side's: how many threads are live and how many ready
 abbrev pub real_time_end : GuestStart → RealTimeStart → List (ℕ × Event) → ℕ → Option RLine
-real_time_end guest start script n = first_of (real_end (both_after guest start script n).real)
+real_time_end guest real script n = first_of (real_end (both_after (run_of guest real script) n).real)

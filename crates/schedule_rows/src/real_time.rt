@@ -1,6 +1,6 @@
 // The real-time side beside guests.
 
-ghost use Rattle.schedule_rows.specs.CallRows.{Calls, Owner, Replies};
+ghost use Rattle.schedule_rows.specs.CallRows.{Calls, OwnerModule, Replies};
 ghost use Rattle.schedule_rows.specs.FaultRows.{DivideFault, IntFault, MemoryFault, OpcodeFault, PortFault, PrivilegedFault};
 ghost use Rattle.schedule_rows.specs.SerialRows.{Printed, PrintedEnd, ReceivedByte, ReceivedEdges, UnitEdge};
 ghost use Rattle.schedule_rows.specs.ThreadRows.{BesideBreach, BesideIdle, BesideTimer, BreachLine, EqualPriorities, Periodic};
@@ -25,7 +25,7 @@ pub fn version_rows()
 
 /// Handlers of lines and of FIFOs, and the calls of a guest, row by row.
 pub fn call_rows()
-    ensures owner { Owner }
+    ensures owner { OwnerModule }
     ensures replies { Replies }
     ensures calls { Calls }
 {}

@@ -27,9 +27,9 @@ pub returns-clause-served : goal.returns-clause-served
 unfolding timed first_bare first_real nearest in_order
 returns-clause-served c = refl
 
-pub returns-clause-taken : goal.returns-clause-taken
+pub returns-clause-owner_changed : goal.returns-clause-owner_changed
 unfolding without_line
-returns-clause-taken c = record { stood = refl; fell = refl }
+returns-clause-owner_changed c = record { stood = refl; fell = refl }
 
 pub returns-clause-timers : goal.returns-clause-timers
 unfolding timed first_bare first_real nearest

@@ -1,5 +1,5 @@
 use Rattle.std.proofs.Common.{rules}
-use Rattle.port_map.specs.declared.owner.Owner.TheVariants.{Guest}
+use Rattle.port_map.specs.declared.com_port.ComPort.TheVariants.{Com1}
 use Rattle.breach_monitor.proofs.Kept.{unit_left_pair, unit_left_sampled}
 use Rattle.breach_monitor.proofs.guest.guest_unit.Goals as goal
 
@@ -11,8 +11,8 @@ returns-in-Next-clause-unit c = record {
   unchanged = search rules;
   place = search rules;
   size = search rules;
-  sampled = unit_left_sampled Guest _ _ _ c.step.ensures.effect;
-  pair = unit_left_pair Guest _ _ _ c.step.ensures.effect;
+  sampled = unit_left_sampled Com1 _ _ _ c.step.ensures.effect;
+  pair = unit_left_pair Com1 _ _ _ c.step.ensures.effect;
 }
 
 pub returns-in-Trap-clause-unit : goal.returns-in-Trap-clause-unit

@@ -2,4 +2,4 @@ use Rattle.breach_monitor.proofs.OfSerial.{is_unit_of_serial}
 use Rattle.breach_monitor.proofs.laws.unit_of_serial.Goals as goal
 
 pub returns : goal.returns
-returns c regs st = is_unit_of_serial c.args.owner regs st
+returns c regs st = is_unit_of_serial c.args.which regs st

@@ -1,5 +1,5 @@
 use Rattle.std.proofs.Common.{rules}
-use Rattle.port_map.specs.declared.owner.Owner.TheVariants.{RealTime}
+use Rattle.port_map.specs.declared.com_port.ComPort.TheVariants.{Com2}
 use Rattle.breach_monitor.proofs.Kept.{flag_left_pair, flag_left_sampled}
 use Rattle.breach_monitor.proofs.real_time.on_flag.Goals as goal
 
@@ -11,6 +11,6 @@ returns-in-Next-clause-unit c = record {
   unchanged = search rules;
   place = search rules;
   size = search rules;
-  sampled = flag_left_sampled RealTime _ _ _ _ _ c.privileged.ensures.effect;
-  pair = flag_left_pair RealTime _ _ _ _ _ c.privileged.ensures.effect;
+  sampled = flag_left_sampled Com2 _ _ _ _ _ c.privileged.ensures.effect;
+  pair = flag_left_pair Com2 _ _ _ _ _ c.privileged.ensures.effect;
 }

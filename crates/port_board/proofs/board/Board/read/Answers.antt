@@ -6,4 +6,4 @@ use Rattle.port_board.proofs.board.Board.read.Goals as goal
 
 pub returns-clause-sampled : goal.returns-clause-sampled
 returns-clause-sampled c k =
-    rw c.read_own.ensures.after (accessed_samples c.args.owner (after_bytes c.args.owner c.args.port (size c.args.width) (serial_of c.args.owner c.args.self.now).port) c.args.self.now k)
+    rw c.read_with.ensures.after (accessed_samples c.com_port.result (after_bytes c.com_port.result c.args.port (size c.args.width) (serial_of c.com_port.result c.args.self.now).port) c.args.self.now k)

@@ -6,4 +6,4 @@ use Rattle.port_board.proofs.board.Board.write.Goals as goal
 
 pub returns-clause-sampled : goal.returns-clause-sampled
 returns-clause-sampled c k =
-    rw c.write_own.ensures (accessed_samples c.args.owner (bytes_written c.args.owner c.args.port (size c.args.width) c.args.value (serial_of c.args.owner c.args.self.now).port) c.args.self.now k)
+    rw c.write_with.ensures (accessed_samples c.com_port.result (bytes_written c.com_port.result c.args.port (size c.args.width) c.args.value (serial_of c.com_port.result c.args.self.now).port) c.args.self.now k)
