@@ -17,7 +17,7 @@ use Rattle.rt_threads.specs.declared.threads.State.TheVariants.{Ready, Waiting, 
 use Rattle.rt_threads.specs.Threads.{thread_at, is_live, priority_of, with_thread, with_state, with_period, with_next, with_priority, new_thread, free_number, has_period, is_priority, is_span, is_plan}
 use Rattle.rt_ready.specs.Order.{Arrival, is_ready, without, joined}
 use Rattle.rt_fifos.specs.Fifos.{Fifo, FifoReply, put_reply, get_reply, create_reply, destroy_reply, flush_reply, set_handler_reply, count_reply, without_handler}
-pub use Rattle.gate_table.specs.declared.request.Request.{Request}
+use Rattle.gate_table.specs.declared.request.Request.{Request}
 use Rattle.gate_table.specs.declared.names.GateName.{GateName}
 use Rattle.gate_table.specs.declared.names.GateName.TheVariants.{Gethrtime, PthreadCreate, PthreadDelete, PthreadSuspend, PthreadWakeup, PthreadMakePeriodic, PthreadWait, PthreadSelf, PthreadSetprio, PthreadGetprio, FifoCreate, FifoDestroy, FifoPut, FifoGet, FifoFlush, FifoCreateHandler, FifoCount, RequestIrq, FreeIrq, GetSoftIrq, FreeSoftIrq, PendIrq, Nanosleep, Print, Other}
 

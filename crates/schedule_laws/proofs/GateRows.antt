@@ -10,7 +10,8 @@ use Rattle.rt_threads.specs.Threads.{is_live, free_number, with_thread, with_sta
 use Rattle.rt_fifos.specs.Fifos.{Fifo}
 use Rattle.gate_table.specs.declared.names.GateName.{GateName}
 use Rattle.gate_table.specs.declared.names.GateName.TheVariants.{Gethrtime, PthreadCreate, PthreadDelete, PthreadSuspend, PthreadWakeup, PthreadMakePeriodic, PthreadWait, PthreadSelf, PthreadSetprio, PthreadGetprio, FifoCreate, FifoDestroy, FifoPut, FifoGet, FifoFlush, FifoCreateHandler, FifoCount, RequestIrq, FreeIrq, GetSoftIrq, FreeSoftIrq, PendIrq, Nanosleep, Print, Other}
-use Rattle.gate_table.specs.Gates.{Request, GateParts, Answered, succeeds, fails, created, deleted, left, suspended, woken, gate_row, Range, gate_in}
+use Rattle.gate_table.specs.declared.request.Request.{Request}
+use Rattle.gate_table.specs.Gates.{GateParts, Answered, succeeds, fails, created, deleted, left, suspended, woken, gate_row, Range, gate_in}
 
 -- what gates do to the parts, each of which keeps a fact. The fact may say which gate it is of
 pub record ChangesKeep (t : ℕ) (q : Request) (p : GateParts) (P : GateName → GateParts → Type 0) : Type 0 where

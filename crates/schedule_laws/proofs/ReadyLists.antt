@@ -20,7 +20,8 @@ use Rattle.rt_timeline.specs.Dues.{come}
 use Rattle.rt_ready.specs.Order.{Arrival, is_ready, without, joined, each_once}
 use Rattle.gate_table.specs.declared.names.GateName.{GateName}
 use Rattle.gate_table.specs.Names.{gate_of}
-use Rattle.gate_table.specs.Gates.{Request, GateParts, Answered, created, woken, gate_row, Range, range_of, gate_in, after_fault, after_return}
+use Rattle.gate_table.specs.declared.request.Request.{Request}
+use Rattle.gate_table.specs.Gates.{GateParts, Answered, created, woken, gate_row, Range, range_of, gate_in, after_fault, after_return}
 use Rattle.run_lines.specs.Calls.{call_at}
 use Rattle.run_lines.specs.Ticks.{at_tick}
 use Rattle.priority_schedule.specs.Pick.{pick}
