@@ -47,11 +47,7 @@ impl Printed for RLine {
 }
 
 // Writes lines of one half, each with one put. A fault ends it.
-fn write_half<K: Sink, L: Printed>(
-    sink: &mut K,
-    tick: u32,
-    lines: &[L],
-) -> Result<(), SinkFault>
+fn write_half<K: Sink, L: Printed>(sink: &mut K, tick: u32, lines: &[L]) -> Result<(), SinkFault>
     ensures { Puts (K.written sink.old) (K.written sink.new) (K.faults sink.old) (K.faults sink.new)
         (flat_map (λ l. piece_of (tick, L.line l)) lines.now) result }
 {
