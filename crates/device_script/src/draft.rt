@@ -13,7 +13,8 @@ use std::marker::Model;
 /// How many events may have one tick.
 const MOST_AT_ONCE: u32 = 16;
 
-/// The events so far. Contracts see their list.
+/// The events so far, with the last tick and how many have it, so that the rules of a script are tested at once for the next one.
+/// Contracts see the list.
 #[derive(Drop)]
 pub struct Draft {
     events: Items<(u32, Event)>,

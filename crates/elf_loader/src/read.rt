@@ -43,7 +43,12 @@ fn check_headers(bytes: &[u8], table: usize, count: usize) -> Result<(), ElfRefu
 }
 
 // The segments that good program headers name.
-fn segments(alloc: Global, bytes: &[u8], table: usize, count: usize) -> Result<Items<Segment>, ElfRefusal>
+fn segments(
+    alloc: Global,
+    bytes: &[u8],
+    table: usize,
+    count: usize,
+) -> Result<Items<Segment>, ElfRefusal>
     requires few { count ≤ 64 }
     requires inside { 0 < count → table + 32 * count ≤ length bytes.now }
     requires good { first_fault (length bytes.now) (headers_from table count bytes.now) ≡ None }

@@ -1,6 +1,7 @@
 //! Lists that grow: a vector that contracts see as the list of its items, so that a struct that holds one can be compared
 //! with what a definition says.
 #![tactic(auto)]
+
 ghost use Rattle.std.specs.Prelude.{◌≡◌, ◌==◌, ◌++◌, ◌∷◌, [], length, take, OnOk, OnErr};
 
 use std::alloc::{AllocError, Global};

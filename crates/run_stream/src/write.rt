@@ -1,8 +1,8 @@
 // Lines into the sink.
-ghost use Rattle.std.specs.Prelude.{◌≡◌, ◌++◌};
+ghost use Rattle.std.specs.Prelude.{◌≡◌, ◌++◌, flat_map};
 ghost use Rattle.outside_io.specs.Sink.{Puts};
-ghost use Rattle.line_kinds.specs.declared.kinds.Line.TheVariants.{R, G};
-ghost use Rattle.run_stream.specs.Lines.{tick_text, piece_of, tick_shown as shown_lines, ends_among, guest_text, real_time_text};
+ghost use Rattle.line_kinds.specs.declared.kinds.Line.{Line};
+ghost use Rattle.run_stream.specs.Lines.{tick_text, piece_of, tick_shown, ends_among, guest_text, real_time_text};
 
 use line_text::LineText;
 use outside_io::{Sink, SinkFault};
@@ -10,46 +10,49 @@ use rt_core::EndLines;
 use run_files::Shown;
 use trace_lines::{GLine, Lines, RLine, write_g, write_r};
 
-// A G line with its end.
-fn guest_piece(tick: u32, line: &GLine) -> LineText
-    ensures { result ≡ piece_of (tick, G line.now) }
-{
-    let mut text = LineText::new();
-    let _ = write_g(tick, line, &mut text);
-    let _ = text.push_text(b"\n");
-    text
+// A line of one half, which is printed.
+trait Printed {
+    /// The line among those of both halves.
+    ghost line: { Self → Line };
+
+    /// Its text at a tick, with its end.
+    fn piece(&self, tick: u32) -> LineText
+        ensures { result ≡ piece_of (tick, line self.now) };
 }
 
-// An R line with its end.
-fn real_time_piece(tick: u32, line: &RLine) -> LineText
-    ensures { result ≡ piece_of (tick, R line.now) }
-{
-    let mut text = LineText::new();
-    let _ = write_r(tick, line, &mut text);
-    let _ = text.push_text(b"\n");
-    text
-}
+impl Printed for GLine {
+    ghost use Rattle.line_kinds.specs.declared.kinds.Line.TheVariants.{G};
 
-// Writes G lines, each with one put. A fault ends it.
-fn write_guest<K: Sink>(sink: &mut K, tick: u32, lines: &[GLine]) -> Result<(), SinkFault>
-    ensures { Puts (K.written sink.old) (K.written sink.new) (K.faults sink.old) (K.faults sink.new)
-        (guest_text tick lines.now) result }
-{
-    for line in lines {
-        if let Err(fault) = sink.put(guest_piece(tick, line).as_bytes()) {
-            return Err(fault);
-        }
+    ghost line = { λ l. G l };
+
+    fn piece(&self, tick: u32) -> LineText {
+        let mut text = LineText::new();
+        let _ = write_g(tick, self, &mut text);
+        let _ = text.push_text(b"\n");
+        text
     }
-    Ok(())
 }
 
-// Writes R lines, each with one put. A fault ends it.
-fn write_real_time<K: Sink>(sink: &mut K, tick: u32, lines: &[RLine]) -> Result<(), SinkFault>
+impl Printed for RLine {
+    ghost use Rattle.line_kinds.specs.declared.kinds.Line.TheVariants.{R};
+
+    ghost line = { λ l. R l };
+
+    fn piece(&self, tick: u32) -> LineText {
+        let mut text = LineText::new();
+        let _ = write_r(tick, self, &mut text);
+        let _ = text.push_text(b"\n");
+        text
+    }
+}
+
+// Writes lines of one half, each with one put. A fault ends it.
+fn write_half<K: Sink, L: Printed>(sink: &mut K, tick: u32, lines: &[L]) -> Result<(), SinkFault>
     ensures { Puts (K.written sink.old) (K.written sink.new) (K.faults sink.old) (K.faults sink.new)
-        (real_time_text tick lines.now) result }
+        (flat_map (λ l. piece_of (tick, L.line l)) lines.now) result }
 {
     for line in lines {
-        if let Err(fault) = sink.put(real_time_piece(tick, line).as_bytes()) {
+        if let Err(fault) = sink.put(line.piece(tick).as_bytes()) {
             return Err(fault);
         }
     }
@@ -66,8 +69,8 @@ fn write_both<K: Sink>(
     ensures { Puts (K.written sink.old) (K.written sink.new) (K.faults sink.old) (K.faults sink.new)
         (real_time_text tick real_time.now ++ guest_text tick guest.now) result }
 {
-    match write_real_time(sink, tick, real_time) {
-        Ok(()) => write_guest(sink, tick, guest),
+    match write_half(sink, tick, real_time) {
+        Ok(()) => write_half(sink, tick, guest),
         Err(fault) => Err(fault),
     }
 }
@@ -80,10 +83,10 @@ fn write_lines<K: Sink>(
     lines: &Lines,
 ) -> Result<(), SinkFault>
     ensures { Puts (K.written sink.old) (K.written sink.new) (K.faults sink.old) (K.faults sink.new)
-        (tick_text tick (shown_lines shown lines.now.r lines.now.g)) result }
+        (tick_text tick (tick_shown shown lines.now.r lines.now.g)) result }
 {
     match shown {
-        Shown::Guest => write_guest(sink, tick, lines.g()),
+        Shown::Guest => write_half(sink, tick, lines.g()),
         Shown::Both => write_both(sink, tick, lines.r(), lines.g()),
     }
 }
@@ -96,7 +99,7 @@ pub fn write_tick<K: Sink>(
     lines: &Lines,
 ) -> Result<(), SinkFault>
     ensures { Puts (K.written sink.old) (K.written sink.new) (K.faults sink.old) (K.faults sink.new)
-        (tick_text tick (shown_lines shown lines.now.r lines.now.g)) result }
+        (tick_text tick (tick_shown shown lines.now.r lines.now.g)) result }
 {
     // most ticks have no line
     if lines.r().is_empty() && lines.g().is_empty() {
@@ -116,7 +119,7 @@ pub fn write_ends<K: Sink>(
         (tick_text tick (ends_among shown ends.now.r ends.now.g)) result }
 {
     match shown {
-        Shown::Guest => write_guest(sink, tick, &ends.g[..1]),
+        Shown::Guest => write_half(sink, tick, &ends.g[..1]),
         Shown::Both => write_both(sink, tick, &ends.r, &ends.g),
     }
 }
