@@ -1,5 +1,5 @@
 // The fourth step of a tick: the guest's unit.
-ghost use Rattle.std.specs.Prelude.{◌≡◌, ◌≢◌, ◌≤◌, ◌<◌, ◌^◌, ◌++◌, [], ◌∷◌, length, if◌then◌else◌, None, IfSome};
+ghost use Rattle.std.specs.Prelude.{◌≡◌, ◌≢◌, ◌≤◌, ◌<◌, ◌^◌, ◌++◌, [], ◌∷◌, length, false, if◌then◌else◌, None, IfSome};
 ghost use Rattle.flat_memory.specs.Side.{side_at};
 ghost use Rattle.line_sets.specs.LineSet.{with_line, without_line};
 ghost use Rattle.port_map.specs.Serial.{rose};
@@ -274,6 +274,13 @@ fn show_breach(breach: Breach, lines: &mut Lines)
     lines.push_g(GLine::Breach(breach_kind(breach)));
 }
 
+// An instruction was performed: the shadow, if one stood, ends.
+fn end_shadow(guest: &mut Guest)
+    ensures { guest.new ≡ record guest.old { soft = record guest.old.soft { shadow = false } } }
+{
+    guest.soft.unit_done();
+}
+
 // One instruction of a guest that runs, with its line, if it has one.
 fn instruction(
     now: u32,
@@ -292,7 +299,7 @@ fn instruction(
     ensures board { LeavesBoard board.old board.new }
 {
     match perform(memory, registers, board, &mut guest.pending) {
-        GuestUnit::Next => guest.soft.unit_done(),
+        GuestUnit::Next => end_shadow(guest),
         GuestUnit::Enter(vector, push) => {
             enter_vector(vector, push, memory, registers, guest, lines);
         }

@@ -6,9 +6,6 @@ use Rattle.rt_core.specs.Unit.{parts, bare_over}
 use Rattle.rt_core.proofs.Units.{leaves_as, instruction_by, begins_there}
 use Rattle.rt_core.proofs.unit.instruction.Goals as goal
 
-pub returns-in-Next-clause-leaves : goal.returns-in-Next-clause-leaves
-returns-in-Next-clause-leaves c = search rules
-
 pub returns-in-Enter-clause-leaves : goal.returns-in-Enter-clause-leaves
 returns-in-Enter-clause-leaves c =
     let same = c.in-Enter.ensures.unchanged (search rules) in
