@@ -1,7 +1,7 @@
 // The fourth step of a tick: the guest's unit.
-ghost use Rattle.std.specs.Prelude.{◌≡◌, ◌≢◌, ◌≤◌, ◌<◌, ◌^◌, ◌++◌, [], ◌∷◌, length, if◌then◌else◌, None, IfSome};
+ghost use Rattle.std.specs.Prelude.{◌≡◌, ◌≢◌, ◌≤◌, ◌<◌, ◌^◌, ◌++◌, [], ◌∷◌, length, false, if◌then◌else◌, None, IfSome};
 ghost use Rattle.flat_memory.specs.Side.{side_at};
-ghost use Rattle.line_sets.specs.LineSet.{with_line};
+ghost use Rattle.line_sets.specs.LineSet.{with_line, without_line};
 ghost use Rattle.port_map.specs.Serial.{rose};
 ghost use Rattle.port_map.specs.declared.com_port.ComPort.TheVariants as com_port;
 ghost use Rattle.port_board.specs.Board.{accessed, rises_of};
@@ -181,7 +181,16 @@ fn enter_vector(
     }
 }
 
-// An asked line. Where it is entered, it is asked no more, and a halted guest runs.
+// Where an asked line is entered, it is asked no more, and a halted guest runs.
+fn begin_handler(line: u8, guest: &mut Guest)
+    requires { line < 32 }
+    ensures { guest.new ≡ record guest.old { pending = without_line guest.old.pending line; mode = Mode.Runs } }
+{
+    guest.pending.clear(line);
+    guest.mode = Mode::Runs;
+}
+
+// An asked line.
 fn enter_line(
     line: u8,
     memory: &mut FlatMemory,
@@ -204,8 +213,7 @@ fn enter_line(
         memory.guest(),
     ) {
         Entry::Entered => {
-            guest.pending.clear(line);
-            guest.mode = Mode::Runs;
+            begin_handler(line, guest);
             lines.push_g(GLine::Enter(u32::from(vector)));
         }
         Entry::Shutdown => {
@@ -266,6 +274,13 @@ fn show_breach(breach: Breach, lines: &mut Lines)
     lines.push_g(GLine::Breach(breach_kind(breach)));
 }
 
+// An instruction was performed: the shadow, if one stood, ends.
+fn end_shadow(guest: &mut Guest)
+    ensures { guest.new ≡ record guest.old { soft = record guest.old.soft { shadow = false } } }
+{
+    guest.soft.unit_done();
+}
+
 // One instruction of a guest that runs, with its line, if it has one.
 fn instruction(
     now: u32,
@@ -284,7 +299,7 @@ fn instruction(
     ensures board { LeavesBoard board.old board.new }
 {
     match perform(memory, registers, board, &mut guest.pending) {
-        GuestUnit::Next => guest.soft.unit_done(),
+        GuestUnit::Next => end_shadow(guest),
         GuestUnit::Enter(vector, push) => {
             enter_vector(vector, push, memory, registers, guest, lines);
         }
@@ -304,7 +319,8 @@ fn line_to_enter(guest: &Guest) -> Option<u8>
         ≡ (if is_open guest.now.soft then lowest_enabled guest.now.pending guest.now.soft.mask else None) }
     ensures below { IfSome result (λ n. n < 32) }
 {
-    if guest.soft.may_enter() {
+    let open = guest.soft.may_enter();
+    if open {
         guest.pending.lowest(guest.soft.mask)
     } else {
         None

@@ -11,3 +11,6 @@ returns-in-Some-clause-leaves c =
     let b = bare_over (parts c.args.memory.now c.args.registers.now c.args.guest.now c.args.lines.now) (com1_of c.args.board.now) in
     let entered : guest_unit c.args.now b ≡ asked_entry c.in-Some.line b = search rules in
     leaves_as _ _ _ _ _ entered (c.enter_line.ensures (com1_of c.args.board.now))
+
+pub instruction-requires-clause-runs : goal.instruction-requires-clause-runs
+instruction-requires-clause-runs c = search rules
