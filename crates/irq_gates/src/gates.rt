@@ -75,14 +75,15 @@ fn left_to_guest(taken: Option<u8>) -> u32
 /// one does, and then nothing changes.
 pub fn request(line: u32, entry: u32, irqs: &mut Irqs, pair: &mut Pair) -> LineEffect
     requires { IsBooted pair.old }
-    ensures result { result.result ≡ request_result (marked_lines (latch_of pair.old) irqs.old) line }
+    ensures result { result.result ≡ request_result irqs.old line }
     ensures lines { marked_lines (latch_of pair.new) irqs.new ≡ requested (marked_lines (latch_of pair.old) irqs.old) line entry }
     ensures acknowledged { result.acknowledged ≡ taken_of (latch_of pair.old) (owner_changes irqs.old irqs.new) }
+    ensures guest { result.guest ≡ left_to_guest result.acknowledged }
     ensures latches { latch_of pair.new ≡ without_taken result.acknowledged (latch_of pair.old) }
     ensures asked { (pending : ℕ) → asked_lines (latch_of pair.new) irqs.new (union pending result.guest) ≡ asked_lines (latch_of pair.old) irqs.old pending }
     ensures booted { IsBooted pair.new }
     ensures kept { IsPair pair.new }
-    ensures held { IsLines irqs.new }
+    ensures irqs { IsLines irqs.new }
 {
     // Looked at so that the proof knows what is true of the pair and of the lines.
     let _line = pair.request();
@@ -104,14 +105,15 @@ pub fn request(line: u32, entry: u32, irqs: &mut Irqs, pair: &mut Pair) -> LineE
 /// -22 where no module holds the line, and then nothing changes. A fault of the line's handler does the same.
 pub fn free(line: u32, irqs: &mut Irqs, pair: &mut Pair) -> LineEffect
     requires { IsBooted pair.old }
-    ensures result { result.result ≡ free_result (marked_lines (latch_of pair.old) irqs.old) line }
+    ensures result { result.result ≡ free_result irqs.old line }
     ensures lines { marked_lines (latch_of pair.new) irqs.new ≡ freed (marked_lines (latch_of pair.old) irqs.old) line }
     ensures acknowledged { result.acknowledged ≡ taken_of (latch_of pair.old) (owner_changes irqs.old irqs.new) }
+    ensures guest { result.guest ≡ 0 }
     ensures latches { latch_of pair.new ≡ without_taken result.acknowledged (latch_of pair.old) }
     ensures asked { (pending : ℕ) → asked_lines (latch_of pair.new) irqs.new (union pending result.guest) ≡ asked_lines (latch_of pair.old) irqs.old pending }
     ensures booted { IsBooted pair.new }
     ensures kept { IsPair pair.new }
-    ensures held { IsLines irqs.new }
+    ensures irqs { IsLines irqs.new }
 {
     // Looked at so that the proof knows what is true of the pair and of the lines.
     let _line = pair.request();
@@ -120,21 +122,22 @@ pub fn free(line: u32, irqs: &mut Irqs, pair: &mut Pair) -> LineEffect
     if result != 0 {
         return LineEffect::answer(result);
     }
+    let taken = acknowledge(line as u8, pair);
     LineEffect {
         result: 0,
         guest: 0,
-        acknowledged: acknowledge(line as u8, pair),
+        acknowledged: taken,
     }
 }
 
 /// Function 20, rtl_get_soft_irq: a module takes the lowest soft line that is free, and gets its number; -16 where all are taken.
 pub fn get_soft(irqs: &mut Irqs) -> LineEffect
-    ensures result { (latch : ℕ) → result.result ≡ line_result (free_soft_line (marked_lines latch irqs.old).soft) }
+    ensures result { result.result ≡ line_result (free_soft_line irqs.old.soft) }
     ensures lines { (latch : ℕ) → marked_lines latch irqs.new ≡ line_taken (free_soft_line irqs.old.soft) (marked_lines latch irqs.old) }
     ensures acknowledged { (latch : ℕ) → result.acknowledged ≡ taken_of latch (owner_changes irqs.old irqs.new) }
     ensures latches { (latch : ℕ) → latch ≡ without_taken result.acknowledged latch }
     ensures asked { (latch pending : ℕ) → asked_lines latch irqs.new (union pending result.guest) ≡ asked_lines latch irqs.old pending }
-    ensures held { IsLines irqs.new }
+    ensures irqs { IsLines irqs.new }
 {
     LineEffect::answer(irqs.get_soft())
 }
@@ -142,12 +145,12 @@ pub fn get_soft(irqs: &mut Irqs) -> LineEffect
 /// Function 21, rtl_free_soft_irq: a module gives the soft line back, and a mark of the guest on it stays. -22 where it isn't taken,
 /// and then nothing changes.
 pub fn free_soft(line: u32, irqs: &mut Irqs) -> LineEffect
-    ensures result { (latch : ℕ) → result.result ≡ free_soft_result (marked_lines latch irqs.old) line }
+    ensures result { result.result ≡ free_soft_result irqs.old line }
     ensures lines { (latch : ℕ) → marked_lines latch irqs.new ≡ soft_freed (marked_lines latch irqs.old) line }
     ensures acknowledged { (latch : ℕ) → result.acknowledged ≡ taken_of latch (owner_changes irqs.old irqs.new) }
     ensures latches { (latch : ℕ) → latch ≡ without_taken result.acknowledged latch }
     ensures asked { (latch pending : ℕ) → asked_lines latch irqs.new (union pending result.guest) ≡ asked_lines latch irqs.old pending }
-    ensures held { IsLines irqs.new }
+    ensures irqs { IsLines irqs.new }
 {
     LineEffect::answer(irqs.free_soft(line))
 }
@@ -155,16 +158,15 @@ pub fn free_soft(line: u32, irqs: &mut Irqs) -> LineEffect
 /// Function 22, rtl_global_pend_irq: the line is marked for the guest. -22 where it is neither a hard line nor a soft one that is
 /// taken, and then nothing is marked.
 pub fn pend(line: u32, irqs: &Irqs) -> LineEffect
-    ensures result { (latch : ℕ) → result.result ≡ pend_result (marked_lines latch irqs.now) line }
+    ensures result { result.result ≡ pend_result irqs.now line }
     ensures acknowledged { (latch : ℕ) → result.acknowledged ≡ taken_of latch (owner_changes irqs.now irqs.now) }
     ensures latches { (latch : ℕ) → latch ≡ without_taken result.acknowledged latch }
     ensures asked { (latch pending : ℕ) → asked_lines latch irqs.now (union pending result.guest) ≡ pended irqs.now line (asked_lines latch irqs.now pending) }
 {
     if irqs.is_pendable(line) {
         LineEffect {
-            result: 0,
             guest: with_line32(0, line as u8),
-            acknowledged: None,
+            ..LineEffect::answer(0)
         }
     } else {
         LineEffect::answer(failed(EINVAL))

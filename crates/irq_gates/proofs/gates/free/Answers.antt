@@ -21,16 +21,16 @@ pub returns-clause-lines : goal.returns-clause-lines
 returns-clause-lines c =
     let done : free_result c.args.irqs.now c.args.line ≡ pos 0 = search rules in
     let f = frees c.args.irqs.now c.free-result.new.self c.args.line c.next-marked.ensures.lines done c.free-result.ensures.lines in
-    ap (λ l. marked_lines l c.free-result.new.self) c.acknowledge.ensures.latches ∙ freed_marks c.args.irqs.now c.free-result.new.self (latch_of c.args.pair.now) c.args.line f
+    ap (λ l. marked_lines l c.free-result.new.self) c.acknowledge-taken.ensures.latches ∙ freed_marks c.args.irqs.now c.free-result.new.self (latch_of c.args.pair.now) c.args.line f
 
 pub returns-clause-acknowledged : goal.returns-clause-acknowledged
 returns-clause-acknowledged c =
     let done : free_result c.args.irqs.now c.args.line ≡ pos 0 = search rules in
     let f = frees c.args.irqs.now c.free-result.new.self c.args.line c.next-marked.ensures.lines done c.free-result.ensures.lines in
-    c.acknowledge.ensures.acknowledged ∙ sym (ap (taken_of (latch_of c.args.pair.now)) (one_change c.args.irqs.now c.free-result.new.self c.args.line f.one))
+    c.acknowledge-taken.ensures.acknowledged ∙ sym (ap (taken_of (latch_of c.args.pair.now)) (one_change c.args.irqs.now c.free-result.new.self c.args.line f.one))
 
 pub returns-clause-asked : goal.returns-clause-asked
 returns-clause-asked c =
     let done : free_result c.args.irqs.now c.args.line ≡ pos 0 = search rules in
     let f = frees c.args.irqs.now c.free-result.new.self c.args.line c.next-marked.ensures.lines done c.free-result.ensures.lines in
-    λ pending. ap (λ l. asked_lines l c.free-result.new.self (union pending 0)) c.acknowledge.ensures.latches ∙ freed_asked c.args.irqs.now c.free-result.new.self (latch_of c.args.pair.now) c.args.line pending f
+    λ pending. ap (λ l. asked_lines l c.free-result.new.self (union pending 0)) c.acknowledge-taken.ensures.latches ∙ freed_asked c.args.irqs.now c.free-result.new.self (latch_of c.args.pair.now) c.args.line pending f
