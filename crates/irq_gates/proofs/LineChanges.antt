@@ -1,5 +1,5 @@
 -- A module that gains or loses the hold of one line, which is then taken out of the latches.
-use Rattle.std.proofs.Common.{◌≡◌, ℕ, zero, suc, ◌<◌, ◌≢◌, Bool, true, false, cond, not, ◌&&◌, ◌||◌, ◌==◌, eqb, if◌then◌else◌, refl, sym, ap, ◌∙◌, subst, arith, ⊎_elim, Option, Some, None, is_some, List, [], ◌∷◌, slice_set, get_or-set_same, get_or-set_other, ℤ, pos}
+use Rattle.std.proofs.Common.{◌≡◌, ℕ, zero, suc, ◌<◌, ◌≢◌, Bool, true, false, cond, not, ◌&&◌, ◌||◌, ◌==◌, eqb, if◌then◌else◌, refl, sym, ap, ◌∙◌, arith, ⊎_elim, Option, Some, None, is_some, List, [], ◌∷◌, slice_set, get_or-set_same, get_or-set_other, pos}
 use Rattle.std.specs.List.{filter}
 use Rattle.std.proofs.lemmas.Bool.Decides.{nat_tests, eqb_tells}
 use Rattle.line_sets.specs.LineSet.{has, union, with_line, without_line}
@@ -10,7 +10,7 @@ use Rattle.rt_irqs.proofs.Kept.{below_16}
 use Rattle.hard_dispatch.specs.Dispatch.{guest_lines, module_lines, held_lines}
 use Rattle.hard_dispatch.specs.Sets.{asked_lines, marked_lines}
 use Rattle.hard_dispatch.proofs.SetsKept.{guest_line, module_line}
-use Rattle.irq_gates.specs.Owners.{changes_hold, owner_changes, taken_of, without_taken, LeavesOwners, EntriesLeaveOwners}
+use Rattle.irq_gates.specs.Owners.{changes_hold, owner_changes, taken_of, EntriesLeaveOwners}
 use Rattle.irq_gates.specs.Marks.{left_to_guest}
 
 -- the lines of which a module gains or loses the hold
