@@ -20,6 +20,17 @@ const COM2_IER: u16 = 0x2F9;
 
 const COM2_MCR: u16 = 0x2FC;
 
+// Does no byte leave and no line rise in so many ticks?
+fn is_quiet(board: &mut Board, ticks: u8) -> bool {
+    for _ in 0..ticks {
+        let edges = board.tick(&[]);
+        if edges.com1.is_some() || edges.com2.is_some() || edges.lines != 0 {
+            return false;
+        }
+    }
+    true
+}
+
 #[test]
 fn a_rise_by_an_access_is_latched_at_once(rt: HostRuntime) {
     let mut board = Board::new();
@@ -41,9 +52,7 @@ fn an_access_that_touches_anothers_port_is_refused_whole(rt: HostRuntime) {
     let mut board = Board::new();
     assert_eq!(rt; board.write(Guest, 0x2F5, W32, 0x4142_4344), Err(NotYours));
     assert_eq!(rt; board.read(RealTime, 0x1F, W16), Err(NotYours));
-    for _ in 0..40 {
-        assert_eq!(rt; board.tick(&[]).com2, None);
-    }
+    assert!(rt; is_quiet(&mut board, 40));
     // the ports FFFFh, 0, 1 and 2 are nobody's
     assert_eq!(rt; board.read(Guest, 0xFFFF, W32), Ok(0xFFFF_FFFF));
 }
@@ -52,16 +61,16 @@ fn an_access_that_touches_anothers_port_is_refused_whole(rt: HostRuntime) {
 fn a_byte_leaves_and_bytes_of_the_script_come_in(rt: HostRuntime) {
     let mut board = Board::new();
     board.pair.initialize();
-    assert_eq!(rt; board.write(Guest, COM1_IER, W8, 1), Ok(()));
-    assert_eq!(rt; board.write(Guest, COM1_MCR, W8, 8), Ok(()));
-    assert_eq!(rt; board.write(RealTime, COM2_IER, W8, 1), Ok(()));
-    assert_eq!(rt; board.write(RealTime, COM2_MCR, W8, 8), Ok(()));
-    assert_eq!(rt; board.write(Guest, COM1_THR, W8, 0x41), Ok(()));
-    for _ in 0..32 {
-        let edges = board.tick(&[]);
-        assert_eq!(rt; edges.com1, None);
-        assert_eq!(rt; edges.lines, 0);
+    for (owner, port, byte) in [
+        (Guest, COM1_IER, 1),
+        (Guest, COM1_MCR, 8),
+        (RealTime, COM2_IER, 1),
+        (RealTime, COM2_MCR, 8),
+        (Guest, COM1_THR, 0x41),
+    ] {
+        assert!(rt; board.write(owner, port, W8, byte).is_ok());
     }
+    assert!(rt; is_quiet(&mut board, 32));
     let edges = board.tick(&[
         Event::Com2(0x42),
         Event::Line(9),
