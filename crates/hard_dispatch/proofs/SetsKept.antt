@@ -34,13 +34,13 @@ sets_kept latch pending irqs = record {
 
 -- rises
 
-guest_line : (latch k : ℕ) (irqs : Lines) → has (guest_lines latch irqs) k ≡ ((has latch k && not (is_held irqs k)) && not (k == 0 || k == 3))
+pub guest_line : (latch k : ℕ) (irqs : Lines) → has (guest_lines latch irqs) k ≡ ((has latch k && not (is_held irqs k)) && not (k == 0 || k == 3))
 guest_line latch k irqs =
     has-minus (minus latch (held_lines irqs)) 9 k
     ∙ ap (λ b. b && not (has 9 k)) (has-minus latch (held_lines irqs) k ∙ ap (λ b. has latch k && not b) (has-held_lines irqs k))
     ∙ ap (λ b. (has latch k && not (is_held irqs k)) && not b) (has-nine k)
 
-module_line : (latch k : ℕ) (irqs : Lines) → has (module_lines latch irqs) k ≡ (has latch k && is_held irqs k)
+pub module_line : (latch k : ℕ) (irqs : Lines) → has (module_lines latch irqs) k ≡ (has latch k && is_held irqs k)
 module_line latch k irqs = has-common latch (held_lines irqs) k ∙ ap (λ b. has latch k && b) (has-held_lines irqs k)
 
 -- by the owner of the line that rose
