@@ -20,11 +20,11 @@ use rt_threads::{State, Threads};
 // How many bytes the word has that leads a thread to the stub.
 const STUB_WORD: u32 = 4;
 
-// Whether a thread's stack has room on the side for the word that leads to the stub.
-fn has_stack(q: Request, side: &Side<'_>) -> bool
-    ensures { result ≡ (nat_le 4 q.edx && inside (side_of side.now) (q.edx - 4) 4) }
+// Whether a stack below this address has room on the side for the word that leads to the stub.
+fn has_stack(top: u32, side: &Side<'_>) -> bool
+    ensures { result ≡ (nat_le 4 top && inside (side_of side.now) (top - 4) 4) }
 {
-    q.edx >= STUB_WORD && fits(side.first(), side.bytes(), q.edx - STUB_WORD, STUB_WORD)
+    top >= STUB_WORD && fits(side.first(), side.bytes(), top - STUB_WORD, STUB_WORD)
 }
 
 /// Function 2, pthread_create: a thread begins at EBX, ready, with the priority ECX, its stack below EDX, and ESI in EAX. Its number;
@@ -39,7 +39,7 @@ pub fn create(now: u32, q: Request, all: &mut Executive, side: &mut Side<'_>) ->
     ensures first { side.new.first ≡ side.old.first }
     ensures same_loan { side.new.bytes.ghost_name ≡ side.old.bytes.ghost_name }
 {
-    if q.ecx > HIGHEST_PRIORITY || !has_stack(q, side) {
+    if q.ecx > HIGHEST_PRIORITY || !has_stack(q.edx, side) {
         return failed(EINVAL);
     }
     let stack = q.edx - STUB_WORD;
@@ -134,7 +134,6 @@ pub fn make_periodic(q: Request, all: &mut Executive) -> i32
 /// period.
 pub fn wait(id: u8, all: &mut Executive) -> i32
     requires agrees { Agrees all.old }
-    requires live { IsTrue (is_live all.old.threads id) }
     requires next { NextFits (thread_at all.old.threads id) }
     ensures answer { IsAnswered (λ p. pthread_wait p id) result all.old all.new }
     ensures agrees { Agrees all.new }
