@@ -1,5 +1,5 @@
 -- The bytes that a get's result counts.
-use Rattle.std.proofs.Common.{◌≡◌, ◌++◌, ◌∙◌, ℕ, ℤ, List, take, drop, length, refl, ap, Option, Some, None}
+use Rattle.std.proofs.Common.{◌≡◌, ◌++◌, ℕ, ℤ, List, take, drop, length, refl, Option, Some, None}
 use Rattle.std.proofs.Math.Seq.{take-append_seam}
 use Rattle.std.proofs.lemmas.List.{append_assoc}
 use Rattle.rt_fifos.specs.Fifos.{Fifo, fifo_at, get_reply, got_from}

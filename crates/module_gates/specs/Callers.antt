@@ -1,5 +1,5 @@
 -- Who calls a gate.
-use Rattle.std.specs.Prelude.{ℕ, List, Option, IsTrue}
+use Rattle.std.specs.Prelude.{List, Option, IsTrue}
 use Rattle.line_kinds.specs.declared.kinds.Who.{Who}
 use Rattle.line_kinds.specs.declared.kinds.Who.TheVariants as on
 use Rattle.rt_threads.specs.declared.threads.Thread.{Thread as HeldThread}

@@ -52,9 +52,14 @@ abbrev pub registers_after : ModuleUnit → Registers → Registers
 registers_after Outside r = r
 registers_after (Answers e) r = with_eax (cast_unsigned w32 e.result) r
 
-abbrev pub text_ends : ModuleUnit → Type 0
-text_ends Outside = Unit {0}
-text_ends (Answers e) = IsZeroBehind e
+-- a fact where a byte was outside
+abbrev pub WhenOutside : ModuleUnit → Type 0 → Type 0
+WhenOutside Outside P = P
+WhenOutside (Answers e) P = Unit {0}
+
+abbrev pub HasZerosBehind : ModuleUnit → Type 0
+HasZerosBehind Outside = Unit {0}
+HasZerosBehind (Answers e) = IsZeroBehind e
 
 -- Lines
 

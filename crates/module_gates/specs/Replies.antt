@@ -1,5 +1,5 @@
 -- What a call on a FIFO answers and moves.
-use Rattle.std.specs.Prelude.{◌≡◌, ℕ, List, [], length, ℤ, pos, negsuc}
+use Rattle.std.specs.Prelude.{ℕ, ℤ, pos, negsuc}
 
 -- how many bytes a result counts; a failure counts none
 abbrev pub count_of : ℤ → ℕ

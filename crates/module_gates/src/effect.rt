@@ -51,7 +51,7 @@ impl Effect {
 }
 
 /// An effect that succeeds, with the bytes that a gate prints.
-pub fn print(name: GateName, q: &Request, side: &Side<'_>) -> Effect
+pub fn with_text(name: GateName, q: &Request, side: &Side<'_>) -> Effect
     requires { IsInRange (side_of side.now) (range_of q.now name) }
     ensures result { result.result ≡ pos 0 }
     ensures printed { text_of name result ≡ printed_of name q.now (side_of side.now) }

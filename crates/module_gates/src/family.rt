@@ -4,7 +4,7 @@ ghost use Rattle.module_gates.specs.Families.{family_of};
 
 use gate_table::GateName;
 
-/// What a gate works on.
+/// What a gate works on: the threads with their ready list and dues, the FIFOs, the interrupt lines, or none of these.
 #[derive(Clone, Copy)]
 pub enum Family {
     Threads,
@@ -13,34 +13,32 @@ pub enum Family {
     Alone,
 }
 
+/// What a gate of this name works on.
 pub fn family_for(name: GateName) -> Family
     ensures { result ≡ family_of name }
 {
     match name {
-        GateName::Gethrtime => Family::Alone,
-        GateName::PthreadCreate => Family::Threads,
-        GateName::PthreadDelete => Family::Threads,
-        GateName::PthreadSuspend => Family::Threads,
-        GateName::PthreadWakeup => Family::Threads,
-        GateName::PthreadMakePeriodic => Family::Threads,
-        GateName::PthreadWait => Family::Threads,
-        GateName::PthreadSelf => Family::Alone,
-        GateName::PthreadSetprio => Family::Threads,
-        GateName::PthreadGetprio => Family::Threads,
-        GateName::FifoCreate => Family::Fifos,
-        GateName::FifoDestroy => Family::Fifos,
-        GateName::FifoPut => Family::Fifos,
-        GateName::FifoGet => Family::Fifos,
-        GateName::FifoFlush => Family::Fifos,
-        GateName::FifoCreateHandler => Family::Fifos,
-        GateName::FifoCount => Family::Fifos,
-        GateName::RequestIrq => Family::Lines,
-        GateName::FreeIrq => Family::Lines,
-        GateName::GetSoftIrq => Family::Lines,
-        GateName::FreeSoftIrq => Family::Lines,
-        GateName::PendIrq => Family::Lines,
-        GateName::Nanosleep => Family::Threads,
-        GateName::Print => Family::Alone,
-        GateName::Other => Family::Alone,
+        GateName::PthreadCreate
+        | GateName::PthreadDelete
+        | GateName::PthreadSuspend
+        | GateName::PthreadWakeup
+        | GateName::PthreadMakePeriodic
+        | GateName::PthreadWait
+        | GateName::PthreadSetprio
+        | GateName::PthreadGetprio
+        | GateName::Nanosleep => Family::Threads,
+        GateName::FifoCreate
+        | GateName::FifoDestroy
+        | GateName::FifoPut
+        | GateName::FifoGet
+        | GateName::FifoFlush
+        | GateName::FifoCreateHandler
+        | GateName::FifoCount => Family::Fifos,
+        GateName::RequestIrq
+        | GateName::FreeIrq
+        | GateName::GetSoftIrq
+        | GateName::FreeSoftIrq
+        | GateName::PendIrq => Family::Lines,
+        _ => Family::Alone,
     }
 }

@@ -3,16 +3,17 @@
 
 mod alone;
 mod caller;
+mod drop;
 mod effect;
 mod family;
 mod fifos;
+mod gates;
 mod lines;
 mod ranges;
+mod rows;
+mod threads;
 
-pub use alone::alone_row;
 pub use caller::Caller;
-pub use effect::{Effect, ModuleUnit, print};
-pub use family::{Family, family_for};
-pub use fifos::fifo_row;
-pub use lines::line_row;
-pub use ranges::{Admission, admit, request};
+pub use drop::drop_caller;
+pub use effect::{Effect, ModuleUnit};
+pub use gates::gate;

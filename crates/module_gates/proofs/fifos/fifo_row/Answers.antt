@@ -1,4 +1,4 @@
-use Rattle.std.proofs.Common.{rules, ◌≡◌, ℤ, w32, to_z, of_z}
+use Rattle.std.proofs.Common.{rules, ◌≡◌, w32, to_z, of_z}
 use Rattle.module_gates.proofs.fifos.fifo_row.Goals as goal
 
 pub returns-in-FifoGet-clause-answer : goal.returns-in-FifoGet-clause-answer

@@ -1,4 +1,4 @@
-use Rattle.std.proofs.Common.{rules, ◌≡◌, ℕ, ℤ, w32, to_z, of_z, length, take}
+use Rattle.std.proofs.Common.{rules, ◌≡◌, w32, to_z, of_z, length, take}
 use Rattle.module_gates.proofs.Replies.{counted}
 use Rattle.module_gates.proofs.fifos.take_out.Goals as goal
 
