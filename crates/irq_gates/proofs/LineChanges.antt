@@ -1,16 +1,17 @@
 -- A module that gains or loses the hold of one line, which is then taken out of the latches.
-use Rattle.std.proofs.Common.{◌≡◌, ℕ, zero, suc, ◌<◌, ◌≢◌, Bool, true, false, cond, not, ◌&&◌, ◌||◌, ◌==◌, eqb, if◌then◌else◌, refl, sym, ap, ◌∙◌, subst, arith, ⊎_elim, Option, Some, None, is_some, List, [], ◌∷◌, slice_set, get_or-set_same, get_or-set_other, ℤ, pos}
+use Rattle.std.proofs.Common.{◌≡◌, ℕ, zero, suc, ◌<◌, ◌≢◌, Bool, true, false, cond, not, ◌&&◌, ◌||◌, ◌==◌, eqb, if◌then◌else◌, refl, sym, ap, ◌∙◌, arith, ⊎_elim, Option, Some, None, is_some, List, [], ◌∷◌, slice_set, get_or-set_same, get_or-set_other, pos}
 use Rattle.std.specs.List.{filter}
 use Rattle.std.proofs.lemmas.Bool.Decides.{nat_tests, eqb_tells}
 use Rattle.line_sets.specs.LineSet.{has, union, with_line, without_line}
 use Rattle.line_sets.proofs.LineSetLemmas.{same_lines, has-zero, has-union, has-with, has-without_same, has-without_other}
 use Rattle.rt_constants.specs.Errors.{failed}
+use Rattle.rt_constants.specs.declared.errors.TheConstants.{EBUSY, EINVAL}
 use Rattle.rt_irqs.specs.Irqs.{Lines, IsLines, is_held, is_holdable, handler_order, request_result, requested, free_result, freed, line_taken, has_soft, soft_freed}
 use Rattle.rt_irqs.proofs.Kept.{below_16}
 use Rattle.hard_dispatch.specs.Dispatch.{guest_lines, module_lines, held_lines}
 use Rattle.hard_dispatch.specs.Sets.{asked_lines, marked_lines}
 use Rattle.hard_dispatch.proofs.SetsKept.{guest_line, module_line}
-use Rattle.irq_gates.specs.Owners.{changes_hold, owner_changes, taken_of, without_taken, LeavesOwners, EntriesLeaveOwners}
+use Rattle.irq_gates.specs.Owners.{changes_hold, owner_changes, taken_of, EntriesLeaveOwners}
 use Rattle.irq_gates.specs.Marks.{left_to_guest}
 
 -- the lines of which a module gains or loses the hold
@@ -156,7 +157,7 @@ asked_same before after latch n given pending one h = same_lines _ _ (λ k.
 
 -- a line is requested
 
-may_request : (h b : Bool) → (if h then (if b then failed 16 else pos 0) else failed 22) ≡ pos 0 → (h ≡ true) × (b ≡ false)
+may_request : (h b : Bool) → (if h then (if b then failed EBUSY else pos 0) else failed EINVAL) ≡ pos 0 → (h ≡ true) × (b ≡ false)
 may_request true true e = absurd cc
 may_request true false e = (refl, refl)
 may_request false b e = absurd cc
@@ -164,7 +165,7 @@ may_request false b e = absurd cc
 pub request_refused : (before after : Lines) (n entry : ℕ) → request_result before n ≢ pos 0 → after ≡ requested before n entry → before.entries ≡ after.entries
 request_refused before after n entry wrong e = refused_by (is_holdable n) (is_held before n) wrong e
   where
-    refused_by : (h b : Bool) → (if h then (if b then failed 16 else pos 0) else failed 22) ≢ pos 0 → after ≡ (if h && not b then record before { entries = slice_set before.entries n (Some entry) } else before) → before.entries ≡ after.entries
+    refused_by : (h b : Bool) → (if h then (if b then failed EBUSY else pos 0) else failed EINVAL) ≢ pos 0 → after ≡ (if h && not b then record before { entries = slice_set before.entries n (Some entry) } else before) → before.entries ≡ after.entries
     refused_by true true wrong e = ap (λ (l : Lines). l.entries) (sym e)
     refused_by true false wrong e = absurd (wrong refl)
     refused_by false b wrong e = ap (λ (l : Lines). l.entries) (sym e)
@@ -230,14 +231,14 @@ requested_asked before after latch n entry pending r = asked_same before after l
 
 -- a line is given back
 
-may_free : (b : Bool) → (if b then pos 0 else failed 22) ≡ pos 0 → b ≡ true
+may_free : (b : Bool) → (if b then pos 0 else failed EINVAL) ≡ pos 0 → b ≡ true
 may_free true e = refl
 may_free false e = absurd cc
 
 pub free_refused : (before after : Lines) (n : ℕ) → free_result before n ≢ pos 0 → after ≡ freed before n → before.entries ≡ after.entries
 free_refused before after n wrong e = refused_by (is_held before n) wrong e
   where
-    refused_by : (b : Bool) → (if b then pos 0 else failed 22) ≢ pos 0 → after ≡ (if b then record before { entries = slice_set before.entries n None; marked = without_line before.marked n } else before) → before.entries ≡ after.entries
+    refused_by : (b : Bool) → (if b then pos 0 else failed EINVAL) ≢ pos 0 → after ≡ (if b then record before { entries = slice_set before.entries n None; marked = without_line before.marked n } else before) → before.entries ≡ after.entries
     refused_by true wrong e = absurd (wrong refl)
     refused_by false wrong e = ap (λ (l : Lines). l.entries) (sym e)
 

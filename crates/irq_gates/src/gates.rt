@@ -88,7 +88,7 @@ pub fn request(line: u32, entry: u32, irqs: &mut Irqs, pair: &mut Pair) -> LineE
     // Looked at so that the proof knows what is true of the pair and of the lines.
     let _line = pair.request();
     let _marked = irqs.next();
-    // The whole number is tested before the line is taken by eight bits of it.
+    // This tests the whole number: 101h isn't line 1.
     let result = irqs.request(line, entry);
     if result != 0 {
         return LineEffect::answer(result);

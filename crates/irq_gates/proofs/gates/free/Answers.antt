@@ -1,4 +1,4 @@
-use Rattle.std.proofs.Common.{◌≡◌, ◌≢◌, ℤ, pos, ap, sym, ◌∙◌, rules}
+use Rattle.std.proofs.Common.{◌≡◌, ◌≢◌, pos, ap, sym, ◌∙◌, rules}
 use Rattle.line_sets.specs.LineSet.{union}
 use Rattle.pic_8259.specs.Controllers.{latch_of}
 use Rattle.rt_irqs.specs.Irqs.{free_result}
@@ -34,3 +34,6 @@ returns-clause-asked c =
     let done : free_result c.args.irqs.now c.args.line ≡ pos 0 = search rules in
     let f = frees c.args.irqs.now c.free-result.new.self c.args.line c.next-marked.ensures.lines done c.free-result.ensures.lines in
     λ pending. ap (λ l. asked_lines l c.free-result.new.self (union pending 0)) c.acknowledge-taken.ensures.latches ∙ freed_asked c.args.irqs.now c.free-result.new.self (latch_of c.args.pair.now) c.args.line pending f
+
+pub returns-clause-latches : goal.returns-clause-latches
+returns-clause-latches c = c.acknowledge-taken.ensures.taken

@@ -1,8 +1,6 @@
-use Rattle.std.proofs.Common.{◌≡◌, ℕ, Bool, true, false, cond, ap, sym, refl, ◌∙◌}
+use Rattle.std.proofs.Common.{cond, ap, sym, refl, ◌∙◌, rules}
 use Rattle.line_sets.specs.LineSet.{union, with_line}
-use Rattle.rt_irqs.specs.Irqs.{is_pendable}
 use Rattle.hard_dispatch.specs.Sets.{asked_lines}
-use Rattle.irq_gates.specs.Marks.{pended}
 use Rattle.irq_gates.proofs.LineChanges.{none_taken, same_asked, pended_asked}
 use Rattle.irq_gates.proofs.gates.pend.Goals as goal
 
@@ -21,3 +19,6 @@ pub returns-else-is_pendable-clause-asked : goal.returns-else-is_pendable-clause
 returns-else-is_pendable-clause-asked c = λ latch pending.
     same_asked c.args.irqs.now c.args.irqs.now latch pending c.answer-else-is_pendable.result.guest refl c.answer-else-is_pendable.ensures.guest
     ∙ ap (λ b. cond b (with_line (asked_lines latch c.args.irqs.now pending) c.args.line) (asked_lines latch c.args.irqs.now pending)) (sym (sym c.is_pendable.ensures.pendable ∙ c.if-is_pendable.false))
+
+pub returns-else-is_pendable-clause-result : goal.returns-else-is_pendable-clause-result
+returns-else-is_pendable-clause-result c = search rules

@@ -1,4 +1,4 @@
-use Rattle.std.proofs.Common.{◌≡◌, ◌≢◌, ℤ, pos, ap, sym, ◌∙◌, rules}
+use Rattle.std.proofs.Common.{◌≡◌, ◌≢◌, pos, ap, sym, ◌∙◌, rules}
 use Rattle.line_sets.specs.LineSet.{union, without_line}
 use Rattle.pic_8259.specs.Controllers.{latch_of}
 use Rattle.rt_irqs.specs.Irqs.{request_result}
@@ -37,3 +37,6 @@ returns-clause-asked c =
     λ pending. ap (λ l. asked_lines l c.request-result.new.self (union pending c.left_to_guest.result)) c.acknowledge-acknowledged.ensures.latches
     ∙ ap (λ g. asked_lines (without_line (latch_of c.args.pair.now) c.args.line) c.request-result.new.self (union pending g)) (c.left_to_guest.ensures ∙ ap left_to_guest c.acknowledge-acknowledged.ensures.acknowledged)
     ∙ requested_asked c.args.irqs.now c.request-result.new.self (latch_of c.args.pair.now) c.args.line c.args.entry pending r
+
+pub returns-clause-guest : goal.returns-clause-guest
+returns-clause-guest c = c.left_to_guest.ensures
