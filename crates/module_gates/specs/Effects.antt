@@ -1,5 +1,5 @@
 -- What a gate comes to.
-use Rattle.std.specs.Prelude.{◌≡◌, ℕ, zero, ◌-◌, List, take, drop, replicate, Option, Some, None, ℤ, pos}
+use Rattle.std.specs.Prelude.{◌≡◌, ℕ, zero, ◌-◌, List, length, take, drop, replicate, Option, Some, None, ℤ, pos}
 use Rattle.std.specs.Int.{cast_unsigned, w32}
 use Rattle.line_sets.specs.LineSet.{with_line}
 use Rattle.memory_model.specs.Side.{Side, bytes_at}
@@ -24,6 +24,7 @@ printed_of _ q side = None
 abbrev pub row_answers : GateName → Request → Side → ℤ → GateParts → Answered
 row_answers name q side result p = record { result = result; printed = printed_of name q side; after = p }
 
+-- bytes, where a gate succeeds
 abbrev pub where_zero : ℤ → List ℕ → Option (List ℕ)
 where_zero (pos zero) bytes = Some bytes
 where_zero _ bytes = None
@@ -33,10 +34,17 @@ abbrev pub printed_by : GateName → Effect → Option (List ℕ)
 printed_by Print e = where_zero e.result (take e.said e.text)
 printed_by _ e = None
 
+-- the text of gate 24's effect, before its result is known
 abbrev pub text_of : GateName → Effect → Option (List ℕ)
 text_of Print e = Some (take e.said e.text)
 text_of _ e = None
 
+-- how many bytes are printed
+abbrev pub count_printed : Option (List ℕ) → ℕ
+count_printed None = 0
+count_printed (Some bytes) = length bytes
+
+-- zeros stand behind the bytes that are printed
 abbrev pub IsZeroBehind : Effect → Type 0
 IsZeroBehind e = drop e.said e.text ≡ replicate (256 - e.said) 0
 
@@ -51,6 +59,11 @@ answered name (Answers e) p = Some (record { result = e.result; printed = printe
 abbrev pub registers_after : ModuleUnit → Registers → Registers
 registers_after Outside r = r
 registers_after (Answers e) r = with_eax (cast_unsigned w32 e.result) r
+
+-- the count is that of the bytes that are printed
+abbrev pub CountsPrinted : GateName → ModuleUnit → Type 0
+CountsPrinted name Outside = Unit {0}
+CountsPrinted name (Answers e) = e.said ≡ count_printed (printed_by name e)
 
 -- a fact where a byte was outside
 abbrev pub WhenOutside : ModuleUnit → Type 0 → Type 0

@@ -2,7 +2,7 @@
 ghost use Rattle.std.specs.Prelude.{◌≡◌, None, pos};
 ghost use Rattle.flat_memory.specs.Side.{side_of};
 ghost use Rattle.gate_table.specs.Gates.{range_of};
-ghost use Rattle.module_gates.specs.Effects.{IsZeroBehind, printed_of, text_of};
+ghost use Rattle.module_gates.specs.Effects.{IsZeroBehind, count_printed, printed_of, text_of};
 ghost use Rattle.module_gates.specs.Ranges.{IsInRange};
 
 use flat_memory::Side;
@@ -32,7 +32,7 @@ pub enum ModuleUnit {
 }
 
 impl Effect {
-    // Nothing is marked, acknowledged or printed.
+    /// A result beside which nothing is marked, acknowledged or printed.
     pub fn answer(value: i32) -> Effect
         ensures result { result.result ≡ value }
         ensures guest { result.guest ≡ 0 }
@@ -55,6 +55,7 @@ pub fn with_text(name: GateName, q: &Request, side: &Side<'_>) -> Effect
     requires { IsInRange (side_of side.now) (range_of q.now name) }
     ensures result { result.result ≡ pos 0 }
     ensures printed { text_of name result ≡ printed_of name q.now (side_of side.now) }
+    ensures said { result.said ≡ count_printed (text_of name result) }
     ensures text { IsZeroBehind result }
 {
     let mut effect = Effect::answer(0);

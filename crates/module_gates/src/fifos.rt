@@ -5,7 +5,7 @@ ghost use Rattle.rt_constants.specs.declared.limits.TheConstants.{BYTES_LIMIT};
 ghost use Rattle.rt_fifos.specs.Fifos.{get_reply};
 ghost use Rattle.rt_fifos.specs.Room.{IsAtMost};
 ghost use Rattle.module_gates.specs.Replies.{count_of};
-ghost use Rattle.line_kinds.specs.declared.kinds.Who.{Who as Caller};
+ghost use Rattle.line_kinds.specs.declared.kinds.Who.{Who};
 ghost use Rattle.flat_memory.specs.Side.{side_of};
 ghost use Rattle.gate_table.specs.declared.names.GateName.TheVariants as names;
 ghost use Rattle.gate_table.specs.Gates.{GateParts, answers, gate_row, range_of};
@@ -16,7 +16,6 @@ ghost use Rattle.module_gates.specs.Ranges.{IsInRange};
 
 use flat_memory::Side;
 use gate_table::{GateName, Request};
-use rt_constants::{EINVAL, failed};
 use rt_fifos::Fifos;
 use side_ranges::{range, store_bytes};
 
@@ -43,10 +42,10 @@ fn store_counted(got: i32, at: u32, bytes: &[u8; 256], side: &mut Side<'_>)
     }
 }
 
-// Function 14.
+// Function 14, rtf_get.
 fn get(q: &Request, fifos: &mut Fifos, side: &mut Side<'_>) -> i32
     requires { IsInRange (side_of side.old) (range_of q.now names.FifoGet) }
-    ensures answer { (t : ℕ) (who : Caller) (p : GateParts) → gate_row t who q.now (record p { fifos = fifos.old; side = side_of side.old }) names.FifoGet
+    ensures answer { (t : ℕ) (who : Who) (p : GateParts) → gate_row t who q.now (record p { fifos = fifos.old; side = side_of side.old }) names.FifoGet
         ≡ answers result (record p { fifos = fifos.new; side = side_of side.new }) }
     ensures first { side.new.first ≡ side.old.first }
     ensures same_loan { side.new.bytes.ghost_name ≡ side.old.bytes.ghost_name }
@@ -57,11 +56,11 @@ fn get(q: &Request, fifos: &mut Fifos, side: &mut Side<'_>) -> i32
     result
 }
 
-// A gate on FIFOs.
+/// A gate on FIFOs.
 pub fn fifo_row(name: GateName, q: &Request, fifos: &mut Fifos, side: &mut Side<'_>) -> i32
     requires name { family_of name ≡ families.Fifos }
     requires range { IsInRange (side_of side.old) (range_of q.now name) }
-    ensures answer { (t : ℕ) (who : Caller) (p : GateParts) → gate_row t who q.now (record p { fifos = fifos.old; side = side_of side.old }) name
+    ensures answer { (t : ℕ) (who : Who) (p : GateParts) → gate_row t who q.now (record p { fifos = fifos.old; side = side_of side.old }) name
         ≡ row_answers name q.now (side_of side.old) result (record p { fifos = fifos.new; side = side_of side.new }) }
     ensures first { side.new.first ≡ side.old.first }
     ensures same_loan { side.new.bytes.ghost_name ≡ side.old.bytes.ghost_name }
@@ -73,7 +72,6 @@ pub fn fifo_row(name: GateName, q: &Request, fifos: &mut Fifos, side: &mut Side<
         GateName::FifoGet => get(q, fifos, side),
         GateName::FifoFlush => fifos.flush(q.ebx),
         GateName::FifoCreateHandler => fifos.set_handler(q.ebx, q.ecx),
-        GateName::FifoCount => fifos.count(q.ebx),
-        _ => failed(EINVAL),
+        _ => fifos.count(q.ebx),
     }
 }

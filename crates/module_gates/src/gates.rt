@@ -12,7 +12,7 @@ ghost use Rattle.executive.specs.Agreement.{Agrees};
 ghost use Rattle.executive.specs.Parts.{gate_parts};
 ghost use Rattle.irq_gates.specs.Owners.{owner_changes, taken_of, without_taken};
 ghost use Rattle.module_gates.specs.Callers.{who, IsLiveCaller};
-ghost use Rattle.module_gates.specs.Effects.{acknowledged_by, answered, asked_after, asked_by, marked_by, printed_by, registers_after, HasZerosBehind, IsZeroBehind, WhenOutside};
+ghost use Rattle.module_gates.specs.Effects.{acknowledged_by, answered, asked_after, asked_by, count_printed, marked_by, printed_by, registers_after, CountsPrinted, HasZerosBehind, IsZeroBehind, WhenOutside};
 ghost use Rattle.module_gates.specs.Ranges.{IsInRange};
 
 use crate::effect::with_text;
@@ -44,6 +44,7 @@ fn effect_of(
     requires pair { IsPair pair.old }
     ensures answer { gate_row now (who caller) q.now (gate_parts (latch_of pair.old) (side_of side.old) all.old) name
         ≡ record { result = result.result; printed = printed_by name result; after = gate_parts (latch_of pair.new) (side_of side.new) all.new } }
+    ensures said { result.said ≡ count_printed (printed_by name result) }
     ensures text { IsZeroBehind result }
     ensures acknowledged { result.acknowledged ≡ taken_of (latch_of pair.old) (owner_changes all.old.irqs all.new.irqs) }
     ensures latches { latch_of pair.new ≡ without_taken result.acknowledged (latch_of pair.old) }
@@ -84,6 +85,7 @@ fn unit_of(
     ensures outcome { gate_by_table now (who caller) q.now (gate_parts (latch_of pair.old) (side_of side.old) all.old) name
         ≡ answered name result (gate_parts (latch_of pair.new) (side_of side.new) all.new) }
     ensures outside { WhenOutside result ((all.new ≡ all.old) × (side_of side.new ≡ side_of side.old) × (pair.new ≡ pair.old)) }
+    ensures said { CountsPrinted name result }
     ensures text { HasZerosBehind result }
     ensures acknowledged { acknowledged_by result ≡ taken_of (latch_of pair.old) (owner_changes all.old.irqs all.new.irqs) }
     ensures latches { latch_of pair.new ≡ without_taken (acknowledged_by result) (latch_of pair.old) }
@@ -135,6 +137,7 @@ pub fn gate(
         ≡ answered (gate_of (eax regs.old)) result (gate_parts (latch_of pair.new) (side_of side.new) all.new) }
     ensures outside { WhenOutside result ((all.new ≡ all.old) × (side_of side.new ≡ side_of side.old) × (pair.new ≡ pair.old)) }
     ensures registers { regs.new ≡ registers_after result regs.old }
+    ensures said { CountsPrinted (gate_of (eax regs.old)) result }
     ensures text { HasZerosBehind result }
     ensures acknowledged { acknowledged_by result ≡ taken_of (latch_of pair.old) (owner_changes all.old.irqs all.new.irqs) }
     ensures latches { latch_of pair.new ≡ without_taken (acknowledged_by result) (latch_of pair.old) }

@@ -15,7 +15,7 @@ use flat_memory::Side;
 use gate_table::{GateName, Request};
 use rt_constants::{EINVAL, failed};
 
-// Function 7, of the calling thread.
+// Function 7, pthread_wait_np, of the calling thread.
 fn wait_by(caller: Caller, all: &mut Executive) -> i32
     requires caller { IsLiveCaller caller all.old.threads }
     requires agrees { Agrees all.old }
@@ -31,7 +31,7 @@ fn wait_by(caller: Caller, all: &mut Executive) -> i32
     }
 }
 
-// Function 23, of the calling thread.
+// Function 23, nanosleep, of the calling thread.
 fn sleep_by(now: u32, caller: Caller, q: &Request, all: &mut Executive) -> i32
     requires caller { IsLiveCaller caller all.old.threads }
     requires agrees { Agrees all.old }

@@ -1,6 +1,6 @@
 // The gates on threads, one function each.
 ghost use Rattle.std.specs.Prelude.{◌≡◌, ◌-◌, ◌&&◌, ℕ, IsTrue, length, nat_le};
-ghost use Rattle.memory_model.specs.Side.{Side as SideBytes, inside};
+ghost use Rattle.memory_model.specs.Side.{inside};
 ghost use Rattle.rt_threads.specs.Threads.{is_live, is_ready_in, NextFits, priority_of, thread_at};
 ghost use Rattle.rt_constants.specs.declared.limits.TheConstants.{THREADS_LIMIT};
 ghost use Rattle.flat_memory.specs.Side.{side_of};
@@ -167,7 +167,7 @@ pub fn set_priority(q: Request, all: &mut Executive) -> i32
 
 /// Function 10, pthread_getschedparam: a thread's priority; -22 where it isn't live.
 pub fn priority(id: u32, all: &Executive) -> i32
-    ensures { (latch : ℕ) (side : SideBytes) → on_live id (gate_parts latch side all.now) (succeeds (priority_of all.now.threads id) (gate_parts latch side all.now)) ≡ answers result (gate_parts latch side all.now) }
+    ensures { IsAnswered (λ p. on_live id p (succeeds (priority_of p.threads id) p)) result all.now all.now }
 {
     all.threads.priority(id)
 }
