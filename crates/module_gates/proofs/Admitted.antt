@@ -8,7 +8,6 @@ use Rattle.line_kinds.specs.declared.kinds.Who.{Who}
 use Rattle.gate_table.specs.declared.names.GateName.{GateName}
 use Rattle.gate_table.specs.declared.request.Request.{Request}
 use Rattle.gate_table.specs.Gates.{Answered, GateParts, Range, fails, gate_in, gate_row}
-use Rattle.module_gates.specs.declared.ranges.Admission.{Admission}
 use Rattle.module_gates.specs.declared.ranges.Admission.TheVariants.{Fits, TooLong, Outside}
 use Rattle.module_gates.specs.Ranges.{admission_of}
 

@@ -30,5 +30,5 @@ returns-in-TooLong-clause-asked c = λ pending.
 pub returns-in-Fits-clause-outcome : goal.returns-in-Fits-clause-outcome
 returns-in-Fits-clause-outcome c =
     by_row c.args.now (who c.args.caller) c.args.q.now (gate_parts (latch_of c.args.pair.now) (side_of c.args.side.now) c.args.all.now) c.args.name
-        (range_of c.args.q.now c.args.name) (sym c.admit.ensures.admission ∙ c.in-Fits.is)
+    (range_of c.args.q.now c.args.name) (sym c.admit.ensures.admission ∙ c.in-Fits.is)
     ∙ ap Some c.effect_of.ensures.answer
