@@ -12,6 +12,7 @@ ghost use Rattle.irq_gates.specs.Owners.{owner_changes, taken_of, without_taken}
 ghost use Rattle.module_gates.specs.Callers.{who, IsLiveCaller};
 ghost use Rattle.module_gates.specs.Effects.{IsZeroBehind};
 
+use crate::effect::answer;
 use crate::rows::unmarked;
 use crate::{Caller, Effect};
 use executive::Executive;
@@ -66,7 +67,7 @@ pub fn drop_caller(caller: Caller, all: &mut Executive, pair: &mut Pair) -> Effe
     // Looked at so that the proof knows what is true of each pair.
     let _line = pair.request();
     let line = end_activity(caller, all, pair);
-    let mut effect = Effect::answer(0);
+    let mut effect = answer(0);
     effect.guest = line.guest;
     effect.acknowledged = line.acknowledged;
     effect

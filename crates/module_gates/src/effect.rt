@@ -31,22 +31,20 @@ pub enum ModuleUnit {
     Outside,
 }
 
-impl Effect {
-    /// A result beside which nothing is marked, acknowledged or printed.
-    pub fn answer(value: i32) -> Effect
-        ensures result { result.result ≡ value }
-        ensures guest { result.guest ≡ 0 }
-        ensures acknowledged { result.acknowledged ≡ None }
-        ensures said { result.said ≡ 0 }
-        ensures text { IsZeroBehind result }
-    {
-        Effect {
-            result: value,
-            guest: 0,
-            acknowledged: None,
-            said: 0,
-            text: [0; 256],
-        }
+/// A result beside which nothing is marked, acknowledged or printed.
+pub fn answer(value: i32) -> Effect
+    ensures result { result.result ≡ value }
+    ensures guest { result.guest ≡ 0 }
+    ensures acknowledged { result.acknowledged ≡ None }
+    ensures said { result.said ≡ 0 }
+    ensures text { IsZeroBehind result }
+{
+    Effect {
+        result: value,
+        guest: 0,
+        acknowledged: None,
+        said: 0,
+        text: [0; 256],
     }
 }
 
@@ -58,7 +56,7 @@ pub fn with_text(name: GateName, q: &Request, side: &Side<'_>) -> Effect
     ensures said { result.said ≡ count_printed (text_of name result) }
     ensures text { IsZeroBehind result }
 {
-    let mut effect = Effect::answer(0);
+    let mut effect = answer(0);
     if let GateName::Print = name {
         effect.said = q.ecx as u16;
         effect.text = with_zeros(range(side.first(), side.bytes(), q.ebx, q.ecx));

@@ -15,7 +15,7 @@ ghost use Rattle.module_gates.specs.Callers.{who, IsLiveCaller};
 ghost use Rattle.module_gates.specs.Effects.{acknowledged_by, answered, asked_after, asked_by, count_printed, marked_by, printed_by, registers_after, CountsPrinted, HasZerosBehind, IsZeroBehind, WhenOutside};
 ghost use Rattle.module_gates.specs.Ranges.{IsInRange};
 
-use crate::effect::with_text;
+use crate::effect::{answer, with_text};
 use crate::ranges::{Admission, admit, request};
 use crate::rows::row;
 use crate::{Caller, Effect, ModuleUnit};
@@ -101,7 +101,7 @@ fn unit_of(
 {
     match admit(name, q, side) {
         Admission::Outside => ModuleUnit::Outside,
-        Admission::TooLong => ModuleUnit::Answered(Effect::answer(failed(EINVAL))),
+        Admission::TooLong => ModuleUnit::Answered(answer(failed(EINVAL))),
         Admission::Fits => {
             ModuleUnit::Answered(effect_of(now, caller, name, q, all, side, pair))
         }
