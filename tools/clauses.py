@@ -68,6 +68,10 @@ def imported(text: str) -> Set[str]:
     return {name for name in found if name}
 
 
+# a function's body, or its end without one: not the length of an array, as in `[u8; 256]`
+BODY = r"\{|;(?!\s*\w+\])"
+
+
 def cited(text: str, names: Set[str]) -> List[str]:
     words = re.findall(r"[A-Za-z_][\w'-]*", re.sub(r"\.[a-z]\w*", " ", text))
     return list(dict.fromkeys(word for word in words if word in names))
@@ -77,7 +81,7 @@ def clauses_behind(text: str, at: int, names: Set[str]) -> Tuple[List[Clause], i
     """The clauses of a function whose parameters end at this place, and the place of its body, or of its end."""
     found: List[Clause] = []
     word = re.compile(r"\s*(requires|ensures)\*?\s*(\w*)\s*\{")
-    start = re.compile(r"\s(?:requires|ensures)\*?\s*\w*\s*\{|[{;]").search(text, at)
+    start = re.compile(r"\s(?:requires|ensures)\*?\s*\w*\s*\{|" + BODY).search(text, at)
     place = start.start() if start else len(text)
     while True:
         clause = word.match(text, place)
@@ -101,7 +105,7 @@ def functions_in(text: str, owner: str, public: bool, names: Set[str]) -> Iterat
             place = closing(text, found.start())
             continue
         clauses, body = clauses_behind(text, closing(text, text.index("(", found.end())), names)
-        body = re.compile(r"[{;]").search(text, body).start()
+        body = re.compile(BODY).search(text, body).start()
         place = closing(text, body) if text[body] == "{" else body + 1
         is_law = text[body] == "{" and not text[body + 1:place - 1].strip()
         yield Function(owner, found[2], public or (found[1] or "").strip() == "pub", is_law and bool(clauses), clauses)

@@ -306,7 +306,8 @@ impl Threads {
 
     /// The thread's priority; -22 exactly where it isn't live (POSIX, pthread_getschedparam).
     pub fn priority(&self, id: u32) -> i32
-        ensures { result ≡ priority_result (thread_at self.now id) }
+        ensures priority { result ≡ priority_result (thread_at self.now id) }
+        ensures below { IsBelow 256 result }
     {
         match self.thread(id) {
             Some(thread) => i32::from(thread.priority),

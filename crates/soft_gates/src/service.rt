@@ -7,12 +7,13 @@ ghost use Rattle.soft_flags.specs.SoftFlags.{HasTableIn};
 ghost use Rattle.soft_gates.specs.Outcome.{outcome_of, Finishes, WhenOutside, IsOffered};
 ghost use Rattle.soft_gates.specs.Service.{unshadowed, refused, set_timer as set_timer_of, fifo_put as fifo_put_of, fifo_get as fifo_get_of, service as service_of};
 
-use crate::calls::{Call, GetCall, Services, first_outside_of, put_call};
+use crate::calls::{Call, GetCall, Services, put_call};
 use crate::gates::GateUnit;
 use cpu_state::{Access, EAX, EBX, ECX, EDX, Registers};
 use flat_memory::Side;
 use rt_constants::limits::{BYTES_LIMIT, SPAN_LIMIT};
 use rt_constants::{EINVAL, failed};
+use side_ranges::first_outside_of;
 use soft_flags::SoftFlags;
 
 /// The functions, by EAX.

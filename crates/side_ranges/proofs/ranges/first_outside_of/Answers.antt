@@ -1,6 +1,6 @@
 use Rattle.std.proofs.Common.{rules}
 use Rattle.memory_model.specs.Side.{first_outside}
-use Rattle.soft_gates.proofs.calls.first_outside_of.Goals as goal
+use Rattle.side_ranges.proofs.ranges.first_outside_of.Goals as goal
 
 pub returns-in-None-clause-first : goal.returns-in-None-clause-first
 unfolding first_outside

@@ -1,0 +1,5 @@
+pub mod Callers
+pub mod Families
+pub mod Replies
+pub mod Ranges
+pub mod Effects

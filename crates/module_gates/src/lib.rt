@@ -1,0 +1,19 @@
+//! The gates of real-time activities, INT F8h.
+#![tactic(auto)]
+
+mod alone;
+mod caller;
+mod drop;
+mod effect;
+mod family;
+mod fifos;
+mod gates;
+mod lines;
+mod ranges;
+mod rows;
+mod threads;
+
+pub use caller::Caller;
+pub use drop::drop_caller;
+pub use effect::{Effect, ModuleUnit};
+pub use gates::gate;

@@ -1,0 +1,4 @@
+pub mod Agreeing
+pub mod Created
+pub mod Members
+pub mod Rows
