@@ -1,0 +1,3 @@
+pub mod HardwareOf
+pub mod Steps
+pub mod Laws
