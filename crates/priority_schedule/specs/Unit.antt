@@ -21,7 +21,8 @@ use Rattle.line_kinds.specs.Calls.{Call, PutCall, GetCall}
 use Rattle.gate_table.specs.Names.{gate_of}
 use Rattle.rt_threads.specs.declared.threads.Thread.{Thread}
 use Rattle.rt_fifos.specs.Fifos.{FifoReply, put_reply, get_reply, with_mark}
-use Rattle.gate_table.specs.Gates.{Request, Answered, gate, request_of, after_fault, after_return}
+use Rattle.gate_table.specs.declared.request.Request.{Request}
+use Rattle.gate_table.specs.Gates.{Answered, gate, request_of, after_fault, after_return}
 use Rattle.rt_threads.specs.Threads.{given_registers, thread_at, with_thread}
 use Rattle.priority_schedule.specs.State.{RealTime, parts_of, with_parts}
 
