@@ -1,15 +1,16 @@
 -- The pick by places is the one by arrivals.
-use Rattle.std.proofs.Common.{◌≡◌, ℕ, Bool, true, false, List, [], ◌∷◌, refl, sym, ap, ◌∙◌, arith, Option, Some, None, option_map}
+use Rattle.std.proofs.Common.{◌≡◌, ℕ, ◌==◌, Bool, true, false, not, ◌||◌, cond, List, [], ◌∷◌, find, refl, sym, ap, ◌∙◌, subst, arith, Option, Some, None, IfSome, option_map}
 use Rattle.std.specs.Prelude.{if◌then◌else◌}
+use Rattle.std.proofs.lemmas.Bool.Decides.{nat_tests}
 use Rattle.line_sets.specs.LineSet.{common, union}
 use Rattle.line_sets.proofs.LineSetLemmas.{has-common, has-union, has-zero, same_lines}
 use Rattle.line_kinds.specs.declared.kinds.Who.{Who}
 use Rattle.line_kinds.specs.declared.kinds.Who.TheVariants.{Guest, Thread as ThreadOn, Init, Irq, Fifo as FifoOn}
-use Rattle.rt_threads.specs.Threads.{priority_of}
+use Rattle.rt_threads.specs.Threads.{is_ready_in, priority_of, thread_at}
 use Rattle.rt_irqs.specs.Irqs.{Lines, next_of}
 use Rattle.rt_fifos.specs.Fifos.{next_marked}
 use Rattle.rt_ready.specs.declared.ready.Place.{Place}
-use Rattle.rt_ready.specs.Order.{arrivals, first_place, places}
+use Rattle.rt_ready.specs.Order.{arrivals, first_place, id_of, is_beaten_in, is_in, places}
 use Rattle.hard_dispatch.specs.Dispatch.{held_lines}
 use Rattle.hard_dispatch.specs.Sets.{marked_lines}
 use Rattle.executive.specs.declared.executive.Executive.{Executive}
@@ -86,3 +87,31 @@ fourth running module_on handler thread who a b c d = rw (a, b, c, d) refl
 pub none_of_them : (running module_on handler thread : Option Who) → running ≡ None → module_on ≡ None → handler ≡ None → thread ≡ None
     → first_of_all (running ∷ module_on ∷ handler ∷ thread ∷ []) ≡ Guest
 none_of_them running module_on handler thread a b c d = rw (a, b, c, d) refl
+
+-- The thread that goes first is ready
+
+or_true : (b : Bool) → (b || true) ≡ true
+or_true true = refl
+or_true false = refl
+
+also_in : (o : Option Place) (q : Place) (ps : List Place) → IfSome o (λ p. is_in p.id ps ≡ true) → IfSome o (λ p. is_in p.id (q ∷ ps) ≡ true)
+also_in None q ps h = tt
+also_in (Some p) q ps h = ap (λ b. (q.id == p.id) || b) h ∙ or_true (q.id == p.id)
+
+found_in : (test : Place → Bool) (ps : List Place) → IfSome (find test ps) (λ p. is_in p.id ps ≡ true)
+found_in test [] = tt
+found_in test (q ∷ ps) = elim (test q) as (λ b. IfSome (cond b (Some q) (find test ps)) (λ p. is_in p.id (q ∷ ps) ≡ true)) [
+  | true ↦ (let e : (q.id == q.id) ≡ true = grind (arith, nat_tests) in ap (λ b. b || is_in q.id ps) e)
+  | false ↦ also_in (find test ps) q ps (found_in test ps)
+]
+
+first_in : (version : ℕ) (ps : List Place) → IfSome (first_place version ps) (λ p. is_in p.id ps ≡ true)
+unfolding first_place
+first_in version ps = found_in (λ a. not (is_beaten_in version ps a)) ps
+
+ready_id : (all : Executive) (o : Option Place) (i : ℕ) → Agrees all → IfSome o (λ p. is_in p.id all.ready.places ≡ true) → option_map id_of o ≡ Some i → is_ready_in (thread_at all.threads i) ≡ true
+ready_id all None i a h e = absurd cc
+ready_id all (Some p) i a h e = let same : p.id ≡ i = cc in subst (λ k. is_ready_in (thread_at all.threads k) ≡ true) same (sym (a.listed p.id) ∙ h)
+
+pub first_ready : (all : Executive) (i : ℕ) → Agrees all → option_map id_of (first_place all.ready.version all.ready.places) ≡ Some i → is_ready_in (thread_at all.threads i) ≡ true
+first_ready all i a e = ready_id all (first_place all.ready.version all.ready.places) i a (first_in all.ready.version all.ready.places) e

@@ -1,9 +1,9 @@
 // The third step of a tick: what is on the processor.
-ghost use Rattle.std.specs.Prelude.{◌≡◌, ℕ};
+ghost use Rattle.std.specs.Prelude.{◌≡◌, ℕ, IfSome, None};
 ghost use Rattle.executive.specs.Agreement.{Agrees};
 ghost use Rattle.priority_schedule.specs.State.{RealTime};
 ghost use Rattle.priority_schedule.specs.Pick.{pick as pick_of};
-ghost use Rattle.schedule_steps.specs.Choice.{handler_next, running_in, thread_next};
+ghost use Rattle.schedule_steps.specs.Choice.{CanRun, handler_next, running_in, thread_next};
 ghost use Rattle.schedule_steps.specs.States.{IsBeforePick, real_with};
 
 use executive::Executive;
@@ -23,7 +23,8 @@ fn running(on: Option<Who>) -> Option<Who>
 
 // In a tick that drains, the handler of the marked line that is next, or else that of the marked FIFO of lowest number.
 fn next_handler(draining: bool, all: &Executive) -> Option<Who>
-    ensures { result ≡ handler_next draining all.now }
+    ensures handler { result ≡ handler_next draining all.now }
+    ensures runs { IfSome result (λ who. CanRun None all.now who) }
 {
     if !draining {
         return None;
@@ -39,7 +40,9 @@ fn next_handler(draining: bool, all: &Executive) -> Option<Who>
 
 // The thread that goes first.
 fn next_thread(all: &Executive) -> Option<Who>
-    ensures { result ≡ thread_next all.now }
+    requires { Agrees all.now }
+    ensures thread { result ≡ thread_next all.now }
+    ensures runs { IfSome result (λ who. CanRun None all.now who) }
 {
     match all.ready.first() {
         Some(id) => Some(Who::Thread(id)),
@@ -51,7 +54,8 @@ fn next_thread(all: &Executive) -> Option<Who>
 /// number; in a tick that drains the handler of a line, then of a FIFO; the first of the ready threads; and else the guest.
 pub fn pick(draining: bool, on: Option<Who>, module_next: Option<u8>, all: &Executive) -> Who
     requires { Agrees all.now }
-    ensures { (latch : ℕ) (m : RealTime) → IsBeforePick draining on module_next latch all.now m → pick_of draining (real_with latch all.now m) ≡ result }
+    ensures picked { (latch : ℕ) (m : RealTime) → IsBeforePick draining on module_next latch all.now m → pick_of draining (real_with latch all.now m) ≡ result }
+    ensures runs { CanRun on all.now result }
 {
     if let Some(who) = running(on) {
         return who;
