@@ -1,0 +1,4 @@
+pub mod Choice
+pub mod Dues
+pub mod Rounds
+pub mod States
