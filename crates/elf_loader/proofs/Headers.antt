@@ -14,7 +14,6 @@ use Rattle.std.proofs.lemmas.Bool.{cases_Bool}
 use Rattle.std.specs.Prelude.{All}
 use Rattle.std.proofs.lemmas.List.Elements.{All-push, All-nil, All-append}
 use Rattle.elf_loader.specs.Place.{FitsSize}
-use Rattle.elf_loader.specs.declared.image.Image.{Image}
 
 pub headers-step : (t n i : ℕ) (bytes : List ℕ) → i < n
     → headers_from (t + 32 * i) (n - i) bytes ≡ header_at (t + 32 * i) bytes ∷ headers_from (t + 32 * (i + 1)) (n - (i + 1)) bytes
