@@ -1,5 +1,5 @@
 -- An access to a serial port, and the rises that it leaves.
-use Rattle.std.proofs.Common.{◌≡◌, ◌≢◌, ℕ, ◌<◌, ◌+◌, Bool, true, false, not, ◌&&◌, List, [], ◌∷◌, ◌++◌, map, filter, refl, sym, ap, ◌∙◌, arith, subst}
+use Rattle.std.proofs.Common.{◌≡◌, ◌≢◌, ℕ, ◌<◌, ◌+◌, Bool, true, false, not, ◌&&◌, List, [], ◌∷◌, ◌++◌, map, filter, refl, sym, ap, ◌∙◌, arith, subst, append-nil}
 use Rattle.std.specs.Prelude.{option_map}
 use Rattle.line_sets.specs.LineSet.{has, with_line}
 use Rattle.line_kinds.specs.declared.kinds.HLine.{HLine}
@@ -16,9 +16,9 @@ use Rattle.port_board.specs.Left.{ticks_left}
 use Rattle.port_board.specs.declared.board.Board.{Board}
 use Rattle.port_board.proofs.Latched.{risen_pair}
 use Rattle.port_board.proofs.Sampled.{accessed_samples}
-use Rattle.hardware_lines.specs.Hardware.{latched, with_edges, with_if, rising_order}
+use Rattle.hardware_lines.specs.Hardware.{Marking, latched, with_edges, with_if, rising_order}
 use Rattle.hardware_steps.specs.HardwareOf.{marking_of}
-use Rattle.hardware_steps.specs.Laws.{AccessKeepsBoard}
+use Rattle.hardware_steps.specs.Laws.{AccessKeepsBoard, NothingRises}
 use Rattle.hardware_steps.specs.Steps.{serials_rose}
 use Rattle.hardware_steps.proofs.Shots.{same_left, same_shot}
 use Rattle.hardware_steps.proofs.Stepped.{by_parts}
@@ -86,6 +86,19 @@ serials_com2 s b =
     ap (λ x. with_if (rose (serial_of Com1 b) x) 4 (with_if (rose (serial_of Com2 b) (serial_of Com2 (rises_at_once r 3 c))) 3 0)) (once_serial Com1 r 3 c)
     ∙ ap (λ x. with_if (rose (serial_of Com1 b) (serial_of Com1 b)) 4 (with_if (rose (serial_of Com2 b) x) 3 0)) (once_serial Com2 r 3 c)
     ∙ ap (λ x. with_if x 4 (with_if r 3 0)) (no_rise (serial_of Com1 b))
+
+-- where both stay nothing rises
+
+without_edges : (s : Marking) → with_edges 0 s ≡ s
+without_edges s = ap (λ hs. record s { lines = hs }) (append-nil s.lines)
+
+pub none_rises : NothingRises
+none_rises b after s same =
+    ap (λ x. with_edges (with_if (rose (serial_of Com1 b) x) 4 (with_if (rose (serial_of Com2 b) (serial_of Com2 after)) 3 0)) s) (same Com1)
+    ∙ ap (λ x. with_edges (with_if x 4 (with_if (rose (serial_of Com2 b) (serial_of Com2 after)) 3 0)) s) (no_rise (serial_of Com1 b))
+    ∙ ap (λ x. with_edges (with_if (rose (serial_of Com2 b) x) 3 0) s) (same Com2)
+    ∙ ap (λ x. with_edges (with_if x 3 0) s) (no_rise (serial_of Com2 b))
+    ∙ without_edges s
 
 -- with the edges of what rose
 edges_marking : (now last n : ℕ) (r : Bool) (b after : Board) (rises : ℕ) (hs : List HLine) → rises ≡ with_if r n 0 → serials_rose b after 0 ≡ with_if r n 0

@@ -38,6 +38,11 @@ IsUnitStep =
     (b after : Board) (m n : Machines) (s : Marking) → HasSerials m b → HasSerials n after
     → (let e = with_edges (serials_rose b after 0) s in with_taken (taken_line e.hardware.latch (filter (changes_owner m n) handler_order)) e) ≡ unit_step m n s
 
+-- where no serial port's line changed, as in a unit that is a gate, it has no edge
+abbrev pub NothingRises : Type 0
+NothingRises =
+    (b after : Board) (s : Marking) → ((which : ComPort) → serial_of which after ≡ serial_of which b) → with_edges (serials_rose b after 0) s ≡ s
+
 -- the timer, for the nearest dues of the machines
 abbrev pub IsTimerStep : Type 0
 IsTimerStep =

@@ -1,5 +1,5 @@
 // The steps are those of the hardware's definition.
-ghost use Rattle.hardware_steps.specs.Laws.{AccessKeepsBoard, IsDeviceStep, IsDrainStep, IsTimerStep, IsUnitStep};
+ghost use Rattle.hardware_steps.specs.Laws.{AccessKeepsBoard, IsDeviceStep, IsDrainStep, IsTimerStep, IsUnitStep, NothingRises};
 
 /// The device step, for machines with the board's serial ports.
 pub fn is_device_step()
@@ -14,6 +14,11 @@ pub fn is_drain_step()
 /// The unit: its edges, then the line that it took.
 pub fn is_unit_step()
     ensures { IsUnitStep }
+{}
+
+/// A unit after which both serial ports are as before it has no edge.
+pub fn nothing_rises()
+    ensures { NothingRises }
 {}
 
 /// The timer, by the nearest dues of the machines before the unit and after it.

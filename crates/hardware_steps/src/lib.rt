@@ -13,6 +13,8 @@ mod unit;
 
 pub use devices::step_devices;
 pub use drain::drain_board;
-pub use laws::{access_keeps_board, is_device_step, is_drain_step, is_timer_step, is_unit_step};
+pub use laws::{
+    access_keeps_board, is_device_step, is_drain_step, is_timer_step, is_unit_step, nothing_rises,
+};
 pub use shot::{set_shot, timer};
 pub use unit::{unit_ack, unit_edges};
