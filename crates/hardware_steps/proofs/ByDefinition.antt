@@ -8,7 +8,8 @@ use Rattle.hard_dispatch.specs.Service.{in_order}
 use Rattle.rt_irqs.specs.Irqs.{handler_order}
 use Rattle.hardware_lines.specs.Hardware.{Marking, first_acknowledged, with_edges, with_set, next_due, changes_owner}
 use Rattle.hardware_steps.specs.Laws.{IsDeviceStep, IsDrainStep, IsUnitStep, IsTimerStep}
-use Rattle.hardware_steps.specs.Steps.{serials_rose, taken_line, with_taken}
+use Rattle.irq_gates.specs.Owners.{taken_of}
+use Rattle.hardware_steps.specs.Steps.{serials_rose, with_taken}
 
 pub device_step_is : IsDeviceStep
 device_step_is k last events b after lines m n s t = rw (s.com1, s.com2, t.com1, t.com2) refl
@@ -27,7 +28,7 @@ taken_by : (stood : Bool) (line : ℕ) (s : Marking)
 taken_by true line s = refl
 taken_by false line s = ap (λ hs. record s { lines = hs }) (append-nil s.lines)
 
-taken_is : (s : Marking) (lines : List ℕ) → with_taken (taken_line s.hardware.latch lines) s ≡ first_acknowledged lines s
+taken_is : (s : Marking) (lines : List ℕ) → with_taken (taken_of s.hardware.latch lines) s ≡ first_acknowledged lines s
 taken_is s [] = ap (λ hs. record s { lines = hs }) (append-nil s.lines)
 taken_is s (line ∷ lines) = taken_by (has s.hardware.latch line) line s
 

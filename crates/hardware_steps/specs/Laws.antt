@@ -12,8 +12,9 @@ use Rattle.port_map.specs.Serial.{Serial}
 use Rattle.port_board.specs.Board.{serial_of, accessed}
 use Rattle.port_board.specs.declared.board.Board.{Board}
 use Rattle.hardware_lines.specs.Hardware.{Machines, Marking, edge_step, drain_step, unit_step, timer_step, with_edges, with_set, next_due, changes_owner}
+use Rattle.irq_gates.specs.Owners.{taken_of}
 use Rattle.hardware_steps.specs.HardwareOf.{IsBoard, marking_of}
-use Rattle.hardware_steps.specs.Steps.{board_stepped, serials_rose, emptied, taken_line, with_taken, set_again}
+use Rattle.hardware_steps.specs.Steps.{board_stepped, serials_rose, emptied, with_taken, set_again}
 
 -- machines with the serial ports of a board
 pub record HasSerials (m : Machines) (b : Board) : Type 0 where
@@ -36,7 +37,7 @@ IsDrainStep =
 abbrev pub IsUnitStep : Type 0
 IsUnitStep =
     (b after : Board) (m n : Machines) (s : Marking) → HasSerials m b → HasSerials n after
-    → (let e = with_edges (serials_rose b after 0) s in with_taken (taken_line e.hardware.latch (filter (changes_owner m n) handler_order)) e) ≡ unit_step m n s
+    → (let e = with_edges (serials_rose b after 0) s in with_taken (taken_of e.hardware.latch (filter (changes_owner m n) handler_order)) e) ≡ unit_step m n s
 
 -- where no serial port's line changed, as in a unit that is a gate, it has no edge
 abbrev pub NothingRises : Type 0

@@ -1,6 +1,6 @@
 -- The four steps of the hardware's tick, each by the parts of the machine that it changes.
 use Rattle.std.specs.Prelude.{ℕ, suc, Bool, List, [], ◌∷◌, ◌++◌, map, filter, if◌then◌else◌, Option, Some, None}
-use Rattle.line_sets.specs.LineSet.{has, without_line}
+use Rattle.line_sets.specs.LineSet.{has}
 use Rattle.rt_constants.specs.declared.lines.TheConstants.{TIMER_LINE}
 use Rattle.device_script.specs.declared.event.Event.{Event}
 use Rattle.device_script.specs.Events.{lines_of}
@@ -11,6 +11,7 @@ use Rattle.port_board.specs.Board.{serial_of}
 use Rattle.port_board.specs.OneShot.{one_shot_set}
 use Rattle.port_board.specs.declared.board.Board.{Board}
 use Rattle.hard_dispatch.specs.Service.{in_order}
+use Rattle.irq_gates.specs.Owners.{without_taken}
 use Rattle.rt_timeline.specs.Dues.{ticks_until}
 use Rattle.trace_lines.specs.TickLines.{TickLines}
 use Rattle.hardware_lines.specs.Hardware.{Hardware, Marking, latched, with_if, ports_rose, rises_at, without_rise, with_edges, with_set, same_due, rising_order}
@@ -61,15 +62,6 @@ emptied now s = record {
 }
 
 -- 3. The unit
-
--- of the lines whose owner a unit changed, at most one, that which it acknowledged, since it was latched
-abbrev pub taken_line : ℕ → List ℕ → Option ℕ
-taken_line latch [] = None
-taken_line latch (line ∷ lines) = if has latch line then Some line else None
-
-abbrev pub without_taken : Option ℕ → ℕ → ℕ
-without_taken None latch = latch
-without_taken (Some line) latch = without_line latch line
 
 abbrev pub taken_acks : Option ℕ → List HLine
 taken_acks None = []

@@ -7,8 +7,9 @@ ghost use Rattle.port_board.specs.Board.{accessed, rises_of, rises_taken};
 ghost use Rattle.port_board.specs.Left.{ticks_left};
 ghost use Rattle.port_board.specs.declared.board.Board as of_board;
 ghost use Rattle.hardware_lines.specs.Hardware.{with_edges};
+ghost use Rattle.irq_gates.specs.Owners.{without_taken};
 ghost use Rattle.hardware_steps.specs.HardwareOf.{IsBoard, marking_of};
-ghost use Rattle.hardware_steps.specs.Steps.{serials_rose, taken_acks, with_edge_lines, with_taken, without_taken};
+ghost use Rattle.hardware_steps.specs.Steps.{serials_rose, taken_acks, with_edge_lines, with_taken};
 
 use crate::edges::push_edges;
 use port_board::Board;
