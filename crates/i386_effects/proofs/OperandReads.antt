@@ -12,7 +12,7 @@ use Rattle.i386_decode.specs.declared.form.Operand.{Operand}
 use Rattle.i386_decode.specs.declared.form.Operand.TheVariants.{Absent, Register, Memory, Immediate}
 use Rattle.i386_effects.specs.Accesses.{words_unless}
 use Rattle.i386_effects.specs.Effect.{Effect, after_loads, effect_of, changed, unchanged}
-use Rattle.i386_effects.specs.Operands.{address_of, value_of, read_of, touches_of}
+use Rattle.i386_effects.specs.Operands.{effective_address, value_of, read_of, touches_of}
 use Rattle.i386_effects.specs.Change.{Change}
 use Rattle.i386_effects.specs.declared.stepped.Stepped.TheVariants.{Outside}
 
@@ -40,7 +40,7 @@ one_read ports w Absent g K regs st = refl
 one_read ports w (Register r) g K regs st = refl
 one_read ports w (Immediate x) g K regs st = refl
 one_read ports w (Memory a) g K regs st =
-    memory_read ports w (address_of a g) (word_at st.side (address_of a g) (size w)) K regs st (inside st.side (address_of a g) (size w))
+    memory_read ports w (effective_address a g) (word_at st.side (effective_address a g) (size w)) K regs st (inside st.side (effective_address a g) (size w))
 
 first_alone : {D : Type 0} (ports : Ports D) (regs : Registers) (st : State D) (K : ℕ → ℕ → Change) (b : ℕ) (o : Result ℕ ℕ)
     → given_read ports regs st (λ x. K x b) o ≡ given_reads ports regs st K o (Ok b)

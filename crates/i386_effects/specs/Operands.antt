@@ -26,18 +26,18 @@ with_part W8 r x g =
     else slice_set g (r % 4) (slice_index g (r % 4) / 65536 * 65536 + (x % 256 * 256 + slice_index g (r % 4) % 256))
 
 -- a base, or 0
-abbrev pub base_of : Option ℕ → List ℕ → ℕ
-base_of None g = 0
-base_of (Some r) g = slice_index g (r % 8)
+abbrev pub base_value : Option ℕ → List ℕ → ℕ
+base_value None g = 0
+base_value (Some r) g = slice_index g (r % 8)
 
 -- an index, multiplied by 1, 2, 4 or 8, or 0
-abbrev pub index_of : Option (ℕ × ℕ) → List ℕ → ℕ
-index_of None g = 0
-index_of (Some p) g = slice_index g (p.0 % 8) * 2 ^ (p.1 % 4)
+abbrev pub index_value : Option (ℕ × ℕ) → List ℕ → ℕ
+index_value None g = 0
+index_value (Some p) g = slice_index g (p.0 % 8) * 2 ^ (p.1 % 4)
 
 -- an operand's address, modulo 2^32 (section 2.5.3.2)
-abbrev pub address_of : Address → List ℕ → ℕ
-address_of a g = (base_of a.base g + index_of a.index g + a.displacement) % 2 ^ 32
+abbrev pub effective_address : Address → List ℕ → ℕ
+effective_address a g = (base_value a.base g + index_value a.index g + a.displacement) % 2 ^ 32
 
 -- an operand's value, where the word that was loaded for it is known
 abbrev pub value_of : Width → Operand → List ℕ → ℕ → ℕ
@@ -49,14 +49,14 @@ value_of w (Immediate x) g loaded = x % modulus w
 -- an operand's value, read where it stands, or the address where it lies outside
 abbrev pub read_of : Side → Width → Operand → List ℕ → Result ℕ ℕ
 read_of side w (Memory a) g =
-    if inside side (address_of a g) (size w) then Ok (word_at side (address_of a g) (size w) % modulus w) else Err (address_of a g)
+    if inside side (effective_address a g) (size w) then Ok (word_at side (effective_address a g) (size w) % modulus w) else Err (effective_address a g)
 read_of side w (Register r) g = Ok (part w r g)
 read_of side w (Immediate x) g = Ok (x % modulus w)
 read_of side w Absent g = Ok 0
 
 -- the load of an operand, if it stands in memory
 abbrev pub touches_of : Width → Operand → List ℕ → List Touch
-touches_of w (Memory a) g = record { at = address_of a g; width = w } ∷ []
+touches_of w (Memory a) g = record { at = effective_address a g; width = w } ∷ []
 touches_of w _ g = []
 
 -- the general registers with a value in an operand, if it is one of them
@@ -66,5 +66,5 @@ with_operand w _ x g = g
 
 -- the store of a value to an operand, if it stands in memory
 abbrev pub writes_to : Width → Operand → ℕ → List ℕ → List Write
-writes_to w (Memory a) x g = record { at = address_of a g; width = w; value = x } ∷ []
+writes_to w (Memory a) x g = record { at = effective_address a g; width = w; value = x } ∷ []
 writes_to w _ x g = []

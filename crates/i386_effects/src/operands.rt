@@ -2,7 +2,7 @@
 ghost use Rattle.std.specs.Prelude.{◌≡◌, ◌<◌, ◌%◌, ◌^◌, ℕ, Ok};
 ghost use Rattle.cpu_state.specs.Width.{modulus};
 ghost use Rattle.i386_effects.specs.Effect.{committed};
-ghost use Rattle.i386_effects.specs.Operands.{part, with_part, base_of, index_of, address_of, value_of, read_of, with_operand, writes_to};
+ghost use Rattle.i386_effects.specs.Operands.{part, with_part, base_value, index_value, effective_address, value_of, read_of, with_operand, writes_to};
 
 use cpu_state::{Bus, EAX, EDX, Eflags, Registers, Width};
 use i386_decode::{Address, Operand};
@@ -57,7 +57,7 @@ pub fn set_part(width: Width, r: u8, value: u32, general: &mut [u32; 8])
 
 // A base, or 0.
 fn base(base: &Option<u8>, general: &[u32; 8]) -> u32
-    ensures { result ≡ base_of base.now general.now }
+    ensures { result ≡ base_value base.now general.now }
 {
     match base {
         Some(r) => general[(*r % 8) as usize],
@@ -67,7 +67,7 @@ fn base(base: &Option<u8>, general: &[u32; 8]) -> u32
 
 // An index with its shift, or 0.
 fn index(index: &Option<(u8, u8)>, general: &[u32; 8]) -> u64
-    ensures value { result ≡ index_of index.now general.now }
+    ensures value { result ≡ index_value index.now general.now }
     ensures small { result < 2 ^ 36 }
 {
     match index {
@@ -91,7 +91,7 @@ fn scale(shift: u8) -> u32
 
 /// The address of an operand, modulo 2^32 (section 2.5.3.2).
 pub fn address(address: &Address, general: &[u32; 8]) -> u32
-    ensures { result ≡ address_of address.now general.now }
+    ensures { result ≡ effective_address address.now general.now }
 {
     let base = base(&address.base, general) as u64;
     let index = index(&address.index, general);

@@ -10,7 +10,7 @@ use Rattle.i386_alu.specs.Scan.{scan_of}
 use Rattle.i386_decode.specs.declared.form.Form.{Form}
 use Rattle.i386_decode.specs.declared.form.Operand.{Operand}
 use Rattle.i386_decode.specs.declared.form.Operand.TheVariants.{Memory, Register}
-use Rattle.i386_effects.specs.Operands.{part, address_of, value_of, with_operand}
+use Rattle.i386_effects.specs.Operands.{part, effective_address, value_of, with_operand}
 use Rattle.i386_effects.specs.Change.{Change, Done}
 use Rattle.i386_effects.specs.declared.accesses.Touch.{Touch}
 use Rattle.i386_effects.specs.declared.accesses.Write.{Write}
@@ -23,8 +23,8 @@ bytes_away w n = n / bits w * size w + (if top w n then 2 ^ 32 - modulus w / 8 e
 
 -- where the tested operand stands, if in memory: a register names a bit far or near, an immediate one of the operand itself
 abbrev pub tested_at : Width → Operand → Operand → List ℕ → Option ℕ
-tested_at w (Memory a) (Register r) g = Some ((address_of a g + bytes_away w (part w r g)) % 2 ^ 32)
-tested_at w (Memory a) _ g = Some (address_of a g)
+tested_at w (Memory a) (Register r) g = Some ((effective_address a g + bytes_away w (part w r g)) % 2 ^ 32)
+tested_at w (Memory a) _ g = Some (effective_address a g)
 tested_at w _ _ g = None
 
 abbrev pub touch_at : Width → Option ℕ → List Touch

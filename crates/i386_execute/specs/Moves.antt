@@ -10,7 +10,7 @@ use Rattle.i386_alu.specs.Operand.{carried}
 use Rattle.i386_decode.specs.declared.form.Form.{Form}
 use Rattle.i386_decode.specs.declared.form.Operand.{Operand}
 use Rattle.i386_decode.specs.declared.form.Operand.TheVariants.{Memory, Immediate}
-use Rattle.i386_effects.specs.Operands.{part, with_part, address_of, value_of, touches_of, with_operand, writes_to}
+use Rattle.i386_effects.specs.Operands.{part, with_part, effective_address, value_of, touches_of, with_operand, writes_to}
 use Rattle.i386_effects.specs.Change.{Change, Done}
 use Rattle.i386_effects.specs.declared.accesses.Touch.{Touch}
 use Rattle.i386_execute.specs.Results.{first, second, assigned, with_general}
@@ -63,7 +63,7 @@ sign_spread f r = with_general r (with_part f.width 2 (if top f.width (part f.wi
 
 -- the address that an operand names
 abbrev pub place_of : Operand → List ℕ → ℕ
-place_of (Memory a) g = address_of a g
+place_of (Memory a) g = effective_address a g
 place_of _ g = 0
 
 -- LEA; at width 16 the low half

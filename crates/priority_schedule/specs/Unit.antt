@@ -98,18 +98,18 @@ gate_unit t who next m =
 -- What the processor's unit came to: one instruction with CLI, STI, PUSHF and POPF on the activity's own IF, or the gate, the return,
 -- or the first fault, in the order in which `real_time_outcome` names them
 
-abbrev pub came_to : ℕ → Who → Outcome Serial → RealTime → RealTimeUnit → RealUnit
-came_to t who o m Next = performed_unit who o m
-came_to t who o m (Gates next) = gate_unit t who next m
-came_to t who o m Return = return_unit who m
-came_to t who o m (Faults fault) = fault_unit who fault m
+abbrev pub unit_by_answer : ℕ → Who → Outcome Serial → RealTime → RealTimeUnit → RealUnit
+unit_by_answer t who o m Next = performed_unit who o m
+unit_by_answer t who o m (Gates next) = gate_unit t who next m
+unit_by_answer t who o m Return = return_unit who m
+unit_by_answer t who o m (Faults fault) = fault_unit who fault m
 
 -- over the side and COM2, whose line is sampled after each access to it
 unfoldable pub outcome_at : Registers → Side → Serial → Outcome Serial
 outcome_at registers side port = real_time_outcome (serial_ports Com2) registers (reached side port)
 
 unfoldable pub activity_unit : ℕ → Who → RealTime → RealUnit
-activity_unit t who m = let o = outcome_at (registers_of who m) m.side m.com2 in came_to t who o m o.answer
+activity_unit t who m = let o = outcome_at (registers_of who m) m.side m.com2 in unit_by_answer t who o m o.answer
 
 -- The guest's call on FIFOs, if it makes one, of at most 256 bytes. A result above 0 marks the FIFO's handler
 

@@ -15,7 +15,7 @@ use Rattle.run_lines.specs.Says.{held_by}
 use Rattle.gate_table.specs.declared.request.Request.{Request}
 use Rattle.gate_table.specs.Gates.{Answered, gate, request_of}
 use Rattle.priority_schedule.specs.State.{RealTime, parts_of}
-use Rattle.priority_schedule.specs.Unit.{RealUnit, performed_unit, fault_unit, return_unit, gate_answer, registers_of, came_to, outcome_at, activity_unit, call_unit, unit_of, gate_line, printed_lines}
+use Rattle.priority_schedule.specs.Unit.{RealUnit, performed_unit, fault_unit, return_unit, gate_answer, registers_of, unit_by_answer, outcome_at, activity_unit, call_unit, unit_of, gate_line, printed_lines}
 
 -- a fact of the four kinds of unit is one of every unit
 pub record Kinds (t : ℕ) (who : Who) (m : RealTime) (P : RealUnit → Type 0) : Type 0 where
@@ -24,7 +24,7 @@ pub record Kinds (t : ℕ) (who : Who) (m : RealTime) (P : RealUnit → Type 0) 
   pub returning : P (return_unit who m)
   pub gating : (registers : Registers) (q : Request) → P (gate_answer who registers q m (gate t who q (parts_of m) (gate_of q.function)))
 
-came_kind : (t : ℕ) (who : Who) (m : RealTime) (P : RealUnit → Type 0) → Kinds t who m P → (o : Outcome Serial) (u : RealTimeUnit) → P (came_to t who o m u)
+came_kind : (t : ℕ) (who : Who) (m : RealTime) (P : RealUnit → Type 0) → Kinds t who m P → (o : Outcome Serial) (u : RealTimeUnit) → P (unit_by_answer t who o m u)
 came_kind t who m P k o Next = k.performing o
 came_kind t who m P k o (Gates next) = k.gating (at_eip next (registers_of who m)) (request_of (registers_of who m))
 came_kind t who m P k o Return = k.returning
