@@ -1,9 +1,8 @@
 -- The range of a gate that accesses memory, before its row: a count above 256 fails, and then a byte outside the side is a fault.
 use Rattle.std.specs.Prelude.{◌≡◌, ◌≤◌, nat_lt, true, if◌then◌else◌, Option, Some, None, is_some}
-use Rattle.rt_constants.specs.declared.errors.TheConstants.{EINVAL}
 use Rattle.rt_constants.specs.declared.limits.TheConstants.{BYTES_LIMIT}
 use Rattle.memory_model.specs.Side.{Side, covers, first_outside}
-use Rattle.gate_table.specs.Gates.{Answered, GateParts, Range, fails}
+use Rattle.gate_table.specs.Gates.{Range}
 use Rattle.module_gates.specs.declared.ranges.Admission.{Admission}
 use Rattle.module_gates.specs.declared.ranges.Admission.TheVariants.{Fits, TooLong, Outside}
 
@@ -13,12 +12,6 @@ admission_of side (Some range) =
     if nat_lt BYTES_LIMIT range.count then TooLong
     else if is_some (first_outside side range.place range.count) then Outside
     else Fits
-
--- the answer where the row's is this
-abbrev pub admitted : Admission → Answered → GateParts → Option Answered
-admitted Fits row p = Some row
-admitted TooLong row p = Some (fails EINVAL p)
-admitted Outside row p = None
 
 -- at most 256 bytes, all of them on the side
 abbrev pub IsInRange : Side → Option Range → Type 0

@@ -1,4 +1,5 @@
-//! The gates of real-time activities, INT F8h.
+//! The gates of real-time activities, INT F8h, over the executive: from the registers to the registers. And what a fault of an activity
+//! leaves, or the return of a thread.
 #![tactic(auto)]
 
 mod alone;
