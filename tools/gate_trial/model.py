@@ -1,11 +1,11 @@
 #!/usr/bin/env python3
 """A plain model of the table of gates in docs/SCHEDULE.md, and random sequences of gates over it.
 
-  model.py FIRST COUNT        makes the sequences FIRST, FIRST + 1, .. as main.rt beside it does, and prints a digest of what every
+  model.py FIRST COUNT        makes the sequences FIRST, FIRST + 1, .. as main.rt.txt beside it does, and prints a digest of what every
                               gate was asked and answered and of what stands at the end, with how often each gate was asked
   model.py FIRST COUNT show   prints that itself
 
-The model is written from docs/SCHEDULE.md alone, over Python's lists and sets. Of main.rt it has the draws and the order of what is
+The model is written from docs/SCHEDULE.md alone, over Python's lists and sets. Of main.rt.txt it has the draws and the order of what is
 noted; of the program that is compared it has nothing.
 """
 import collections

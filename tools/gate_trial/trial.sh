@@ -1,6 +1,6 @@
 #!/usr/bin/env bash
 # Compares random sequences of 60 gates with a plain model: trial.sh [SEQUENCES], 100,000 where none is said.
-# It tries main.rt, a program over the repository's crates that is no crate of the repository, and compares its digests with model.py's.
+# It tries main.rt.txt, a program over the repository's crates that is no crate of the repository, and compares its digests with model.py's.
 # Not a part of the gate: it takes some minutes.
 set -euo pipefail
 here=$(cd "$(dirname "$0")" && pwd)
@@ -16,7 +16,7 @@ while read -r name; do
     cp -r "$top/crates/$name/src" "$top/crates/$name/specs" "$top/crates/$name/proofs" "$room/crates/$name/" 2> /dev/null || true
 done < <(ls "$top/crates")
 mkdir -p "$room/crates/gate_trial/src"
-cp "$here/main.rt" "$room/crates/gate_trial/src/main.rt"
+cp "$here/main.rt.txt" "$room/crates/gate_trial/src/main.rt"
 uses="cpu_state flat_memory hard_dispatch executive module_gates pic_8259 rt_fifos rt_irqs rt_ready rt_threads rt_timeline"
 { cat "$top/crates.txt"; echo "gate_trial: $uses"; } > "$room/crates.txt"
 cd "$room/crates/gate_trial"
