@@ -31,7 +31,8 @@ use Rattle.rt_threads.specs.declared.threads.State.TheVariants.{Ready, Waiting}
 use Rattle.rt_threads.specs.Threads.{with_state, with_period, is_plan, is_priority, with_next, with_priority, with_thread, priority_of, free_number}
 use Rattle.rt_constants.specs.declared.errors.TheConstants.{EBUSY, EINVAL}
 use Rattle.rt_constants.specs.Errors.{failed}
-use Rattle.gate_table.specs.Gates.{Request, GateParts, Answered, fails, succeeds, created, left, woken, deleted, suspended, gate_row, Range, range_of, gate_in}
+use Rattle.gate_table.specs.declared.request.Request.{Request}
+use Rattle.gate_table.specs.Gates.{GateParts, Answered, fails, succeeds, created, left, woken, deleted, suspended, gate_row, Range, range_of, gate_in}
 use Rattle.priority_schedule.specs.Pick.{pick}
 use Rattle.rt_constants.specs.declared.limits.TheConstants.{THREADS_LIMIT}
 use Rattle.rt_timeline.specs.declared.timeline.ThreadDue.{ThreadDue}

@@ -9,7 +9,8 @@ use Rattle.rt_irqs.specs.Irqs.{next_of}
 use Rattle.side_digest.specs.Digest.{digest}
 use Rattle.device_script.specs.declared.event.Event.{Event}
 use Rattle.cpu_state.specs.declared.registers.Registers.{Registers}
-use Rattle.gate_table.specs.Gates.{Request, Answered}
+use Rattle.gate_table.specs.declared.request.Request.{Request}
+use Rattle.gate_table.specs.Gates.{Answered}
 use Rattle.rt_fifos.specs.Fifos.{next_marked}
 use Rattle.rt_ready.specs.declared.ready.Place.{Place}
 use Rattle.priority_schedule.specs.Pick.{pick, pick_after, next_activity, next_module, first_of_all, first_ready}

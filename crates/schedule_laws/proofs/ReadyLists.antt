@@ -23,7 +23,8 @@ use Rattle.rt_ready.specs.Order.{Arrival, is_ready, without, joined, each_once}
 use Rattle.gate_table.specs.declared.names.GateName.{GateName}
 use Rattle.gate_table.specs.declared.names.GateName.TheVariants.{Gethrtime, PthreadCreate, PthreadDelete, PthreadSuspend, PthreadWakeup, PthreadMakePeriodic, PthreadWait, PthreadSelf, PthreadSetprio, PthreadGetprio, FifoCreate, FifoDestroy, FifoPut, FifoGet, FifoFlush, FifoCreateHandler, FifoCount, RequestIrq, FreeIrq, GetSoftIrq, FreeSoftIrq, PendIrq, Nanosleep, Print, Other}
 use Rattle.gate_table.specs.Names.{gate_of}
-use Rattle.gate_table.specs.Gates.{Request, GateParts, Answered, succeeds, fails, created, deleted, left, suspended, woken, gate_row, Range, range_of, gate_in, after_fault, after_return}
+use Rattle.gate_table.specs.declared.request.Request.{Request}
+use Rattle.gate_table.specs.Gates.{GateParts, Answered, succeeds, fails, created, deleted, left, suspended, woken, gate_row, Range, range_of, gate_in, after_fault, after_return}
 use Rattle.run_lines.specs.Calls.{call_at}
 use Rattle.run_lines.specs.Ticks.{at_tick}
 use Rattle.priority_schedule.specs.Pick.{pick}

@@ -15,7 +15,8 @@ use Rattle.rt_ready.specs.Order.{joined, is_ready}
 use Rattle.rt_fifos.specs.Fifos.{put_reply, get_reply, create_reply, destroy_reply, flush_reply, set_handler_reply, count_reply}
 use Rattle.gate_table.specs.declared.names.GateName.{GateName}
 use Rattle.gate_table.specs.declared.names.GateName.TheVariants.{Gethrtime, PthreadCreate, PthreadDelete, PthreadSuspend, PthreadWakeup, PthreadMakePeriodic, PthreadWait, PthreadSelf, PthreadSetprio, PthreadGetprio, FifoCreate, FifoDestroy, FifoPut, FifoGet, FifoFlush, FifoCreateHandler, FifoCount, RequestIrq, FreeIrq, GetSoftIrq, FreeSoftIrq, PendIrq, Nanosleep, Print, Other}
-use Rattle.gate_table.specs.Gates.{Request, GateParts, Answered, succeeds, fails, on_live, created, deleted, left, suspended, woken, of_thread, pthread_wait, pthread_setprio, nanosleep, gate_row, Range, range_of, gate_in, gate}
+use Rattle.gate_table.specs.declared.request.Request.{Request}
+use Rattle.gate_table.specs.Gates.{GateParts, Answered, succeeds, fails, on_live, created, deleted, left, suspended, woken, of_thread, pthread_wait, pthread_setprio, nanosleep, gate_row, Range, range_of, gate_in, gate}
 use Rattle.priority_schedule.specs.Priority.{Seen, after_gate, after_result, caller_waits, is_in, leaves, joins, has_priority, ReadyLive}
 use Rattle.schedule_laws.proofs.Reading.{Reads, priorities, priorities-kept, priorities-set, ready-ids, reads_left, reads_joined, reads_ended, ids-joined, priority_in_slot, joins_live, priority_live}
 

@@ -7,7 +7,8 @@ use Rattle.breach_monitor.specs.RealTimeUnit.{Outcome}
 use Rattle.port_map.specs.SerialLine.{byte_sent}
 use Rattle.device_script.specs.declared.event.Event.{Event}
 use Rattle.cpu_state.specs.declared.registers.Registers.{Registers}
-use Rattle.gate_table.specs.Gates.{Request, GateParts, Answered, after_fault, after_return}
+use Rattle.gate_table.specs.declared.request.Request.{Request}
+use Rattle.gate_table.specs.Gates.{GateParts, Answered, after_fault, after_return}
 use Rattle.priority_schedule.specs.Priority.{Seen, after_line, thread_ends, is_release, joins}
 use Rattle.rt_constants.specs.declared.limits.TheConstants.{THREADS_LIMIT}
 use Rattle.rt_timeline.specs.declared.timeline.ThreadDue.{ThreadDue}

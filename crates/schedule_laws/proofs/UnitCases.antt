@@ -12,7 +12,8 @@ use Rattle.cpu_state.specs.Registers.{at_eip}
 use Rattle.line_kinds.specs.Calls.{Call, PutCall, GetCall}
 use Rattle.gate_table.specs.Names.{gate_of}
 use Rattle.run_lines.specs.Says.{held_by}
-use Rattle.gate_table.specs.Gates.{Request, Answered, gate, request_of}
+use Rattle.gate_table.specs.declared.request.Request.{Request}
+use Rattle.gate_table.specs.Gates.{Answered, gate, request_of}
 use Rattle.priority_schedule.specs.State.{RealTime, parts_of}
 use Rattle.priority_schedule.specs.Unit.{RealUnit, performed_unit, fault_unit, return_unit, gate_answer, registers_of, came_to, outcome_at, activity_unit, call_unit, unit_of, gate_line, printed_lines}
 
