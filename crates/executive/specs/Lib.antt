@@ -1,2 +1,3 @@
 pub mod Agreement
+pub mod First
 pub mod Parts

@@ -6,6 +6,8 @@ mod dues;
 #[cfg(test)]
 mod fifos;
 #[cfg(test)]
+mod gates_on_threads;
+#[cfg(test)]
 mod ready_threads;
 #[cfg(test)]
 mod threads;

@@ -1,6 +1,6 @@
 // The gates on threads, one function each.
 ghost use Rattle.std.specs.Prelude.{◌≡◌, ◌-◌, ◌&&◌, ℕ, IsTrue, length, nat_le};
-ghost use Rattle.memory_model.specs.Side.{Side as SideBytes, inside};
+ghost use Rattle.memory_model.specs.Side.{inside};
 ghost use Rattle.rt_threads.specs.Threads.{is_live, is_ready_in, NextFits, priority_of, thread_at};
 ghost use Rattle.rt_constants.specs.declared.limits.TheConstants.{THREADS_LIMIT};
 ghost use Rattle.flat_memory.specs.Side.{side_of};
@@ -20,11 +20,11 @@ use rt_threads::{State, Threads};
 // How many bytes the word has that leads a thread to the stub.
 const STUB_WORD: u32 = 4;
 
-// Whether a thread's stack has room on the side for the word that leads to the stub.
-fn has_stack(q: Request, side: &Side<'_>) -> bool
-    ensures { result ≡ (nat_le 4 q.edx && inside (side_of side.now) (q.edx - 4) 4) }
+// Whether a stack below this address has room on the side for the word that leads to the stub.
+fn has_stack(top: u32, side: &Side<'_>) -> bool
+    ensures { result ≡ (nat_le 4 top && inside (side_of side.now) (top - 4) 4) }
 {
-    q.edx >= STUB_WORD && fits(side.first(), side.bytes(), q.edx - STUB_WORD, STUB_WORD)
+    top >= STUB_WORD && fits(side.first(), side.bytes(), top - STUB_WORD, STUB_WORD)
 }
 
 /// Function 2, pthread_create: a thread begins at EBX, ready, with the priority ECX, its stack below EDX, and ESI in EAX. Its number;
@@ -39,7 +39,7 @@ pub fn create(now: u32, q: Request, all: &mut Executive, side: &mut Side<'_>) ->
     ensures first { side.new.first ≡ side.old.first }
     ensures same_loan { side.new.bytes.ghost_name ≡ side.old.bytes.ghost_name }
 {
-    if q.ecx > HIGHEST_PRIORITY || !has_stack(q, side) {
+    if q.ecx > HIGHEST_PRIORITY || !has_stack(q.edx, side) {
         return failed(EINVAL);
     }
     let stack = q.edx - STUB_WORD;
@@ -134,7 +134,6 @@ pub fn make_periodic(q: Request, all: &mut Executive) -> i32
 /// period.
 pub fn wait(id: u8, all: &mut Executive) -> i32
     requires agrees { Agrees all.old }
-    requires live { IsTrue (is_live all.old.threads id) }
     requires next { NextFits (thread_at all.old.threads id) }
     ensures answer { IsAnswered (λ p. pthread_wait p id) result all.old all.new }
     ensures agrees { Agrees all.new }
@@ -168,7 +167,7 @@ pub fn set_priority(q: Request, all: &mut Executive) -> i32
 
 /// Function 10, pthread_getschedparam: a thread's priority; -22 where it isn't live.
 pub fn priority(id: u32, all: &Executive) -> i32
-    ensures { (latch : ℕ) (side : SideBytes) → on_live id (gate_parts latch side all.now) (succeeds (priority_of all.now.threads id) (gate_parts latch side all.now)) ≡ answers result (gate_parts latch side all.now) }
+    ensures { IsAnswered (λ p. on_live id p (succeeds (priority_of p.threads id) p)) result all.now all.now }
 {
     all.threads.priority(id)
 }

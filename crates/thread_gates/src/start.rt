@@ -1,6 +1,6 @@
 // The start of an activity.
 ghost use Rattle.std.specs.Prelude.{◌≡◌};
-ghost use Rattle.cpu_state.specs.Registers.{starting as starting_at};
+ghost use Rattle.cpu_state.specs.Registers.{starting};
 
 use cpu_state::{Context, EAX, ESP, Eflags, Registers};
 
@@ -8,7 +8,7 @@ use cpu_state::{Context, EAX, ESP, Eflags, Registers};
 /// the interrupt flag, and all else is 0.
 #[tactic(auto, unfolding(cpu_state::specs::Registers::starting))]
 pub fn starting(entry: u32, argument: u32, stack: u32, interrupt: bool) -> Context
-    ensures { result ≡ starting_at entry argument stack interrupt }
+    ensures { result ≡ starting entry argument stack interrupt }
 {
     let mut general = [0; 8];
     general[EAX] = argument;
