@@ -17,4 +17,5 @@ mod threads;
 pub use caller::Caller;
 pub use drop::drop_caller;
 pub use effect::{Effect, ModuleUnit};
+pub use executive::Executive;
 pub use gates::gate;
