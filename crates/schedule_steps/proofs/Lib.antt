@@ -1,2 +1,3 @@
+pub mod Live
 pub mod Picking
 pub mod Taking

@@ -1,4 +1,5 @@
 pub mod Choice
 pub mod Dues
+pub mod Laws
 pub mod Rounds
 pub mod States
