@@ -76,11 +76,13 @@ both_rose before after edges = ports_rose before.bare.com1 after.bare.com1 befor
 
 -- Dues
 
--- the guest's timer: the first start + k * period, with k from 1, above the last acknowledgement
+-- a timer's first due above a tick: start + k * period, with k from 1; with period 0 it is off
+abbrev pub timer_due : ℕ → ℕ → ℕ → Option ℕ
+timer_due last start period = if period == 0 then None else Some (start + ((last - start) / period + 1) * period)
+
+-- the guest's timer, above the last acknowledgement
 abbrev pub guest_due : ℕ → Bare → Option ℕ
-guest_due last b =
-    if b.timer_period == 0 then None
-    else Some (b.timer_start + ((last - b.timer_start) / b.timer_period + 1) * b.timer_period)
+guest_due last b = timer_due last b.timer_start b.timer_period
 
 -- the nearest due of the waiting threads and of the guest's timer
 abbrev pub next_due : ℕ → Machines → Option ℕ

@@ -16,18 +16,20 @@ use std::marker::Model;
 #[derive(Drop)]
 pub struct Fifos {
     rooms: Vec<Room>,
+    // the marked FIFO of lowest number: looked up in each tick, and found anew only by the calls that may change a mark
+    next: Option<u8>,
 }
 
 impl Model for Fifos {
     ghost use Rattle.std.specs.Prelude.{◌≡◌, List, Option, length};
     ghost use Rattle.rt_constants.specs.declared.limits.TheConstants.{FIFOS_LIMIT};
-    ghost use Rattle.rt_fifos.specs.Fifos.{Fifo};
+    ghost use Rattle.rt_fifos.specs.Fifos.{Fifo, next_marked};
 
     ghost Value = { List (Option Fifo) };
 
     ghost view = { λ f. f.rooms.items };
 
-    ghost invariant = { λ f. length f.rooms.items ≡ FIFOS_LIMIT };
+    ghost invariant = { λ f. (length f.rooms.items ≡ FIFOS_LIMIT) × (f.next ≡ next_marked f.rooms.items) };
 }
 
 fn is_creatable(fifo: u32, size: u32) -> bool
@@ -47,13 +49,32 @@ fn empty_rooms(alloc: Global) -> Result<Vec<Room>, AllocError>
     Ok(rooms)
 }
 
+// The place of the first marked FIFO.
+fn marked_place(rooms: &[Room]) -> Option<usize>
+    ensures place { result ≡ next_marked rooms.now }
+    ensures below { IfSome result (λ f. f < length rooms.now) }
+{
+    rooms.iter().position(|room| room.is_marked())
+}
+
+// Its number.
+fn first_marked(rooms: &[Room]) -> Option<u8>
+    requires { length rooms.now ≡ FIFOS_LIMIT }
+    ensures { result ≡ next_marked rooms.now }
+{
+    match marked_place(rooms) {
+        Some(fifo) => Some(fifo as u8),
+        None => None,
+    }
+}
+
 impl Fifos {
     /// No FIFO. All memory is taken here, for 64 FIFOs of up to 16,384 bytes.
     pub fn new(alloc: Global) -> Result<Fifos, NoMemory>
         ensures { IfOk result (λ f. f ≡ replicate FIFOS_LIMIT None) }
     {
         match empty_rooms(alloc) {
-            Ok(rooms) => Ok(Fifos { rooms }),
+            Ok(rooms) => Ok(Fifos { rooms, next: None }),
             Err(_) => Err(NoMemory),
         }
     }
@@ -78,7 +99,9 @@ impl Fifos {
         if fifo as usize >= self.rooms.len() {
             return failed(ENODEV);
         }
-        self.rooms[fifo as usize].destroy()
+        let result = self.rooms[fifo as usize].destroy();
+        self.next = first_marked(self.rooms.as_slice());
+        result
     }
 
     /// Appends the bytes, and says how many: -19 exactly where there is no such FIFO, else -28 exactly where they don't all fit, and then
@@ -142,7 +165,9 @@ impl Fifos {
         if fifo as usize >= self.rooms.len() {
             return failed(ENODEV);
         }
-        self.rooms[fifo as usize].set_handler(entry)
+        let result = self.rooms[fifo as usize].set_handler(entry);
+        self.next = first_marked(self.rooms.as_slice());
+        result
     }
 
     /// Marks a FIFO's handler to start, if there are such.
@@ -152,16 +177,8 @@ impl Fifos {
     {
         if (fifo as usize) < self.rooms.len() {
             self.rooms[fifo as usize].mark();
+            self.next = first_marked(self.rooms.as_slice());
         }
-    }
-
-    // The place of the first marked FIFO.
-    fn first_marked(&self) -> Option<usize>
-        ensures fifo { result ≡ next_marked self.now }
-        ensures marked { IfSome result (λ f. is_marked (fifo_at self.now f) ≡ true) }
-        ensures below { IfSome result (λ f. f < FIFOS_LIMIT) }
-    {
-        self.rooms.iter().position(|room| room.is_marked())
     }
 
     /// The marked FIFO of lowest number, whose handler is next; `None` exactly where none is marked.
@@ -170,10 +187,7 @@ impl Fifos {
         ensures marked { IfSome result (λ f. is_marked (fifo_at self.now f) ≡ true) }
         ensures below { IfSome result (λ f. f < FIFOS_LIMIT) }
     {
-        match self.first_marked() {
-            Some(fifo) => Some(fifo as u8),
-            None => None,
-        }
+        self.next
     }
 
     /// Clears the mark of a marked FIFO, and gives its handler's entry, an address.
@@ -184,6 +198,8 @@ impl Fifos {
         ensures handler { HasHandler (fifo_at self.old fifo) result }
         ensures fifos { self.new ≡ without_mark fifo self.old }
     {
-        self.rooms[fifo as usize].start()
+        let entry = self.rooms[fifo as usize].start();
+        self.next = first_marked(self.rooms.as_slice());
+        entry
     }
 }

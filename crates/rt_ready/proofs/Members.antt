@@ -80,7 +80,7 @@ below (q ∷ ps) m i h = elim (eqb i q.id) as (λ b. eqb i q.id ≡ b → (b || 
   | false ↦ λ e f. below ps m.2 i f
 ] refl h
 
-few : (ps : List Place) → AreMembers ps → length ps ≤ 64
+pub few : (ps : List Place) → AreMembers ps → length ps ≤ 64
 few ps m = subst (λ n. n ≤ 64) (length-map ps id_of) (length-le_from_distinct_below (map id_of ps) 64 (distinct ps m) (below ps m))
 
 -- there is room for one more

@@ -1,5 +1,5 @@
 // The ready list.
-ghost use Rattle.std.specs.Prelude.{◌≡◌, ◌<◌, ◌++◌, ◌∷◌, [], false, map, IfOk, IfSome, option_map};
+ghost use Rattle.std.specs.Prelude.{◌≡◌, length, ◌<◌, ◌++◌, ◌∷◌, [], false, map, IfOk, IfSome, option_map};
 ghost use Rattle.rt_constants.specs.declared.limits.TheConstants.{THREADS_LIMIT};
 ghost use Rattle.rt_ready.specs.Order.{better_of, first_place, goes_before, id_of, is_in, placed, rated, without_place};
 
@@ -99,6 +99,13 @@ impl Ready {
             Ok(places) => Ok(Ready { version, places }),
             Err(_) => Err(NoMemory),
         }
+    }
+
+    /// How many threads are ready.
+    pub fn count(&self) -> u32
+        ensures { result ≡ length self.now.places }
+    {
+        self.places.len() as u32
     }
 
     /// A thread comes last, ready since `since`, a tick.

@@ -1,5 +1,5 @@
 // The live threads.
-ghost use Rattle.std.specs.Prelude.{◌≡◌, ◌+◌, ◌<◌, ◌&&◌, ℕ, IfOk, IfSome, None, Some, replicate, slice_set, option_map, pos, true, IsTrue, if◌then◌else◌};
+ghost use Rattle.std.specs.Prelude.{◌≡◌, count_by, is_some, ◌+◌, ◌<◌, ◌&&◌, ℕ, IfOk, IfSome, None, Some, replicate, slice_set, option_map, pos, true, IsTrue, if◌then◌else◌};
 ghost use Rattle.rt_constants.specs.declared.limits.TheConstants.{THREADS_LIMIT};
 ghost use Rattle.rt_threads.specs.declared.threads.State.TheVariants as states;
 ghost use Rattle.rt_threads.specs.Threads.{thread_at, is_live, with_thread, state_of, with_state, with_period, with_next, with_priority, given_registers, live_result, priority_result, is_plan, is_span, is_priority, has_period, if_done, free_number, created_result, created, IsBelow, NextFits};
@@ -126,6 +126,13 @@ impl Threads {
             }
             None => failed(EAGAIN),
         }
+    }
+
+    /// How many threads are live.
+    pub fn count(&self) -> u32
+        ensures { result ≡ count_by is_some self.now }
+    {
+        self.places.iter().filter(|place| place.is_some()).count() as u32
     }
 
     /// What a thread does; `None` exactly where the number isn't live.

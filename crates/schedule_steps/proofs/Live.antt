@@ -31,7 +31,7 @@ due_kept : (r : Registers) (slot : Option Thread) → due_held (option_map (give
 due_kept r None = refl
 due_kept r (Some th) = refl
 
-dues_kept : (i : ℕ) (r : Registers) (threads : List (Option Thread)) → dues_of (with_thread i (given_registers r) threads) ≡ dues_of threads
+pub dues_kept : (i : ℕ) (r : Registers) (threads : List (Option Thread)) → dues_of (with_thread i (given_registers r) threads) ≡ dues_of threads
 dues_kept i r threads =
     map-set due_held threads i (option_map (given_registers r) (thread_at threads i))
     ∙ ap (slice_set (dues_of threads) i) (due_kept r (thread_at threads i))

@@ -27,7 +27,7 @@ placed_again priority (p ∷ ps) r =
     ∙ ap (λ xs. p ∷ xs) (placed_again priority ps r.1)
 
 -- where no line is latched, those marked are marked
-none_latched : (irqs : Lines) → marked_lines 0 irqs ≡ irqs
+pub none_latched : (irqs : Lines) → marked_lines 0 irqs ≡ irqs
 none_latched irqs = ap (λ n. record irqs { marked = n })
     (same_lines (union irqs.marked (common 0 (held_lines irqs))) irqs.marked (λ k. grind (arith, has-union irqs.marked (common 0 (held_lines irqs)) k, has-common 0 (held_lines irqs) k, has-zero k)))
 
