@@ -1,6 +1,6 @@
 mod UnitCases
 mod GateRows
-mod Solutions
+pub mod Solutions
 mod LongerLemmas
 mod Reading
 mod RowReads
@@ -8,8 +8,10 @@ mod PickFirst
 mod TickReads
 mod PriorityLaw
 mod HeldReads
-mod Calm
-mod Served
-mod Drains
+pub mod Calm
+pub mod Served
+pub mod Drains
 mod ReadyLists
 pub mod Printed
+pub mod Holding
+pub mod BothRuns

@@ -154,7 +154,7 @@ turned_threads who s =
       | false ↦ started_threads who s.real
     ]
 
-picked_threads : (draining : Bool) (s : Ticking) → (picked draining s).real.threads ≡ s.real.threads
+pub picked_threads : (draining : Bool) (s : Ticking) → (picked draining s).real.threads ≡ s.real.threads
 unfolding picked
 picked_threads draining s = turned_threads (pick draining s.real) s
 

@@ -27,7 +27,7 @@ use Rattle.hardware_lines.specs.RunStart.{RunStart}
 use Rattle.schedule_laws.proofs.UnitCases.{quiet_unit}
 
 -- the holder after the pick is the holder of the tick
-holder_picked : (holder_before : Option Who) (t : ℕ) (events : List Event) (call : Option Call) (m : RealTime) → fold held_by holder_before (real_time_tick t events call m).lines ≡ fold held_by holder_before (opened t events m).lines
+pub holder_picked : (holder_before : Option Who) (t : ℕ) (events : List Event) (call : Option Call) (m : RealTime) → fold held_by holder_before (real_time_tick t events call m).lines ≡ fold held_by holder_before (opened t events m).lines
 holder_picked w t events call m =
     let s = opened t events m in
     fold-append held_by w s.lines (unit_of t call s.real s.real.on).lines ∙ quiet_unit (fold held_by w s.lines) t call s.real s.real.on
@@ -174,15 +174,15 @@ both_follows start n k h a =
     let b = both_after start n in
     follows_lines start n (both_g start) (both_r start) b.bare b.real k h refl refl
 
-both_agrees : (start : RunStart) (n k : ℕ) → k ≤ n → Agrees start (all_g start n) (all_r start n) k
+pub both_agrees : (start : RunStart) (n k : ℕ) → k ≤ n → Agrees start (all_g start n) (all_r start n) k
 both_agrees start n = agrees_all start (all_g start n) (all_r start n) n (both_follows start n)
 
-both_real_lines : (start : RunStart) (n k : ℕ) → k < n → real_lines start.real start.script (calls_of (all_g start n)) k ≡ both_r start k
+pub both_real_lines : (start : RunStart) (n k : ℕ) → k < n → real_lines start.real start.script (calls_of (all_g start n)) k ≡ both_r start k
 both_real_lines start n k h =
     let a = both_agrees start n k (omega arith) in
     real_same start (all_g start n) (all_r start n) k a (both_follows start n k h a).call_is
 
-both_bare_lines : (start : RunStart) (n k : ℕ) → k < n → bare_lines start.guest start.script (all_r start n) k ≡ both_g start k
+pub both_bare_lines : (start : RunStart) (n k : ℕ) → k < n → bare_lines start.guest start.script (all_r start n) k ≡ both_g start k
 both_bare_lines start n k h =
     let r = all_r start n in
     let a = both_agrees start n k (omega arith) in

@@ -2,6 +2,7 @@
 use Rattle.std.specs.Prelude.{ℕ, suc, zero, List, ◌++◌, fold, filter_map, Option, None}
 use Rattle.device_script.specs.declared.event.Event.{Event}
 use Rattle.line_kinds.specs.declared.kinds.GLine.{GLine}
+use Rattle.line_kinds.specs.declared.kinds.HLine.{HLine}
 use Rattle.line_kinds.specs.declared.kinds.RLine.{RLine}
 use Rattle.line_kinds.specs.declared.kinds.Who.{Who}
 use Rattle.port_map.specs.SerialLine.{byte_sent}
@@ -16,6 +17,7 @@ use Rattle.bare_machine.specs.Unit.{unit_lines}
 use Rattle.priority_schedule.specs.Release.{Ticking}
 use Rattle.priority_schedule.specs.Run.{real_end}
 use Rattle.priority_schedule.specs.State.{RealTime, first_state as first_real}
+use Rattle.hardware_lines.specs.Hardware.{Hardware, Machines, first_hardware, marking}
 use Rattle.hardware_lines.specs.RunStart.{RunStart}
 use Rattle.priority_schedule.specs.Tick.{opened, acted}
 
@@ -74,6 +76,18 @@ both_g start n = both_guest (suc n) (at_tick (suc n) start.script) (both_after s
 
 unfoldable pub both_r : RunStart → ℕ → List RLine
 both_r start n = (both_real (suc n) (at_tick (suc n) start.script) (both_after start n)).lines
+
+-- both machines as the hardware has them, the hardware after n ticks, and its lines of the tick after them
+abbrev pub both_machines : RunStart → ℕ → Machines
+both_machines start n = record { bare = (both_after start n).bare; real = (both_after start n).real }
+
+unfoldable pub both_hardware : RunStart → ℕ → Hardware
+both_hardware start zero = first_hardware
+both_hardware start (suc n) =
+    (marking (suc n) (at_tick (suc n) start.script) (both_machines start n) (both_machines start (suc n)) (both_hardware start n)).hardware
+
+unfoldable pub both_h : RunStart → ℕ → List HLine
+both_h start n = (marking (suc n) (at_tick (suc n) start.script) (both_machines start n) (both_machines start (suc n)) (both_hardware start n)).lines
 
 -- the lines of n ticks with their end lines
 unfoldable pub all_g : RunStart → ℕ → List (ℕ × GLine)

@@ -2,7 +2,7 @@
 -- its services, a real-time start, a script and so many ticks. First comes what a solution is (`IsSolution`), which all the program's
 -- promises speak of, and that there is one (`OneSolution`); then longer runs, what is printed, two guests, priority, what lines say,
 -- and dues, of a tick from any state and of a run.
-use Rattle.std.specs.Prelude.{◌≡◌, ℕ, suc, ◌+◌, ◌<◌, ◌≤◌, Bool, true, false, List, [], length, map, Option, Some, option_map, IfSome}
+use Rattle.std.specs.Prelude.{◌≡◌, ℕ, suc, ◌+◌, ◌<◌, ◌≤◌, Bool, true, false, List, [], length, map, Option, Some, option_map, IfSome, fold, ◌⊎◌, None}
 use Rattle.line_sets.specs.LineSet.{has}
 use Rattle.rt_irqs.specs.Irqs.{is_held}
 use Rattle.device_script.specs.declared.event.Event.{Event}
@@ -12,15 +12,15 @@ use Rattle.line_kinds.specs.declared.kinds.Who.{Who}
 use Rattle.line_kinds.specs.declared.kinds.Who.TheVariants.{Guest, Thread as ThreadOn}
 use Rattle.line_kinds.specs.Calls.{Call}
 use Rattle.run_lines.specs.Calls.{calls_of}
-use Rattle.run_lines.specs.Says.{holder, held, pended, reply_in}
+use Rattle.run_lines.specs.Says.{held_by, holder, held, pended, reply_in}
 use Rattle.run_lines.specs.Ticks.{at_tick, IsPrefixOf}
-use Rattle.bare_machine.specs.Run.{bare, bare_run}
+use Rattle.bare_machine.specs.Run.{bare, bare_after, bare_end, bare_run}
 use Rattle.bare_machine.specs.State.{GuestStart}
 use Rattle.priority_schedule.specs.Priority.{Seen, seen, KeepsPriority}
 use Rattle.rt_threads.specs.declared.threads.Thread.{Thread}
 use Rattle.rt_threads.specs.Threads.{due_at, thread_at, is_ready_in}
 use Rattle.priority_schedule.specs.Release.{drained, drains}
-use Rattle.priority_schedule.specs.Run.{real_time, real_run, real_after}
+use Rattle.priority_schedule.specs.Run.{real_time, real_run, real_after, real_end}
 use Rattle.rt_ready.specs.Order.{Arrival, is_ready, each_once}
 use Rattle.priority_schedule.specs.State.{RealTime, RealTimeStart}
 use Rattle.priority_schedule.specs.Tick.{begun, devices, opened, real_time_tick}
@@ -29,7 +29,9 @@ use Rattle.rt_constants.specs.declared.limits.TheConstants.{THREADS_LIMIT}
 use Rattle.hardware_lines.specs.Hardware.{Hardware, Machines, devices_of, chosen_of, edge_step, drain_step, guest_due, hardware, hardware_after, machines_after, marking}
 use Rattle.hardware_lines.specs.Timely.{IsTimely}
 use Rattle.run_output.specs.Halves.{found, real_time_in, guest_in, hardware_in}
+use Rattle.run_output.specs.Merge.{merged, with_ends}
 use Rattle.hardware_lines.specs.RunStart.{RunStart}
+use Rattle.schedule_laws.specs.Both.{all_g, all_r, both_after, both_g, both_h, both_hardware, both_r}
 use Rattle.schedule_laws.specs.Output.{run_lines, run_output}
 
 -- One solution. Guest lines and real-time lines that meet both equations: the guest's are those of the bare machine beside the
@@ -45,6 +47,25 @@ OneSolution =
     (start : RunStart) (n : ℕ)
     → (g : List (ℕ × GLine)) × ((r : List (ℕ × RLine)) × (IsSolution start n g r
     × ((g' : List (ℕ × GLine)) (r' : List (ℕ × RLine)) → IsSolution start n g' r' → (g' ≡ g) × (r' ≡ r))))
+
+-- Side by side. The two machines that go on together, a tick at a time, are the run that the definitions give: their lines are the
+-- solution and the output, their states are those of both machines and the hardware beside these lines, the held lines are those that the
+-- real-time lines say, and what is on, if anything is, is the last holder that they name
+
+pub record BothRun (start : RunStart) (n : ℕ) : Type 0 where
+  pub solution : IsSolution start n (all_g start n) (all_r start n)
+  pub output : (hardware_too : Bool) → run_output hardware_too start n (all_r start n) (calls_of (all_g start n))
+      ≡ with_ends n (real_end (both_after start n).real) (bare_end (both_after start n).bare) (merged hardware_too (both_r start) (both_h start) (both_g start) n)
+  pub bare : bare_after start.guest start.script (all_r start n) n ≡ (both_after start n).bare
+  pub real : real_after start.real start.script (calls_of (all_g start n)) n ≡ (both_after start n).real
+  pub hardware : hardware_after start (all_r start n) (calls_of (all_g start n)) n ≡ both_hardware start n
+  pub who : holder n (all_r start n) ≡ (both_after start n).who
+  pub lines_held : held n (all_r start n) ≡ (both_after start n).lines_held
+  pub holds : (line : ℕ) → has (both_after start n).lines_held line ≡ is_held (both_after start n).real.irqs line
+  pub holder : ((both_after start n).real.on ≡ None) ⊎ ((both_after start n).real.on ≡ (both_after start n).who)
+
+abbrev pub BothRuns : Type 0
+BothRuns = (start : RunStart) (n : ℕ) → BothRun start n
 
 -- Longer runs. The lines of n ticks without end lines are the first of those of n + m ticks: of each machine beside the same lines of
 -- the other
@@ -105,6 +126,13 @@ LinesSay =
     (start : RealTimeStart) (script : List (ℕ × Event)) (n : ℕ) (calls : List (ℕ × Call)) (k : ℕ) → k ≤ n
     → ((w : Who) → (real_after start script calls k).on ≡ Some w → holder k (real_time start script n calls) ≡ Some w)
     × ((line : ℕ) → has (held k (real_time start script n calls)) line ≡ is_held (real_after start script calls k).irqs line)
+
+-- And in a tick, beside any lines so far whose holder is what is on, if anything is: the tick's lines name what was picked
+
+abbrev pub PickHolds : Type 0
+PickHolds =
+    (t : ℕ) (events : List Event) (call : Option Call) (m : RealTime) (who : Option Who) → (m.on ≡ None) ⊎ (m.on ≡ who)
+    → fold held_by who (real_time_tick t events call m).lines ≡ (opened t events m).real.on
 
 -- What the guest sees of a tick beside who is on is the unit: the lines before it have no mark and no reply
 

@@ -4,12 +4,17 @@
 //! proved of it is proved of every such pair.
 #![tactic(auto)]
 
-ghost use Rattle.schedule_laws.specs.Laws.{AlwaysTimely, CalmUnlatched, DrainedCalm, GuestDrains, LinesSay, LongerBare, LongerReal, LongerRuns, OneSolution, OutputLosesNothing, Priority, RunReady, ThreadsSeen, TickDrains, TickReady, TickTimely, TwoGuests, UnitsShow};
+ghost use Rattle.schedule_laws.specs.Laws.{AlwaysTimely, BothRuns, CalmUnlatched, DrainedCalm, GuestDrains, LinesSay, LongerBare, LongerReal, LongerRuns, OneSolution, OutputLosesNothing, PickHolds, Priority, RunReady, ThreadsSeen, TickDrains, TickReady, TickTimely, TwoGuests, UnitsShow};
 
 /// For each guest start, real-time start, script and number of ticks there is exactly one pair of guest lines and real-time lines
 /// that meets both equations.
 pub fn one_solution()
     ensures { OneSolution }
+{}
+
+/// The two machines side by side, a tick at a time, are the run that the definitions give, with its lines, its output and its states.
+pub fn both_runs()
+    ensures { BothRuns }
 {}
 
 /// The lines of a longer run begin with those of a shorter one: of each machine beside the same lines of the other, and of the
@@ -38,6 +43,11 @@ pub fn priority()
 /// What the real-time lines say is what the state holds: who is on, and which lines modules hold.
 pub fn lines_say()
     ensures { LinesSay }
+{}
+
+/// The lines of a tick name what was picked as the holder.
+pub fn pick_holds()
+    ensures { PickHolds }
 {}
 
 /// A tick's reply, and the lines that it marks for the guest, are those of its unit.
