@@ -7,7 +7,18 @@ use Rattle.command_words.specs.Rows.{ReadsUsualWords, RefusesOtherWords}
 
 pub usual : ReadsUsualWords
 unfolding clap_on_literals run_command is_taken rows_read run_words_of
-usual = record { behind = refl; before = refl; joined = refl; joined_before = refl; after_dashes = refl }
+usual = record {
+  behind = refl;
+  before = refl;
+  joined = refl;
+  joined_before = refl;
+  after_dashes = refl;
+  flag_behind = refl;
+  flag_between = refl;
+  flag_before = refl;
+  flag_before_system = refl;
+  flag_beside_joined = refl;
+}
 
 pub others : RefusesOtherWords
 unfolding clap_on_literals run_command is_taken rows_read run_words_of
@@ -28,4 +39,10 @@ others = record {
   help = refl;
   short_help = refl;
   version = refl;
+  two_flags = refl;
+  flag_with_value = refl;
+  flag_with_nothing = refl;
+  shortened_flag = refl;
+  flag_for_value = refl;
+  flag_after_dashes = refl;
 }

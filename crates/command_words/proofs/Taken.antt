@@ -1,6 +1,6 @@
 -- What a parse of the command says of its words.
 use Rattle.std.proofs.lemmas.Bool.Decides.{nat_tests}
-use Rattle.std.proofs.Common.{arith, ◌≡◌, List, [], ◌∷◌, true, false, refl, sym, ◌∙◌, ap, Some, codes, inl, inr}
+use Rattle.std.proofs.Common.{arith, ◌≡◌, Bool, List, [], ◌∷◌, true, false, refl, sym, ◌∙◌, ap, Some, codes, inl, inr}
 use Rattle.clap.specs.Words.{Text, Row, App, Kinds, HasKind, fault_of, is_simple_and_free, is_simple, matches_of, kind_of}
 use Rattle.clap.specs.declared.error.Error.{Error}
 use Rattle.clap.specs.declared.error.kind.ErrorKind.TheVariants.{OutOfMemory}
@@ -10,7 +10,7 @@ use Rattle.clap.specs.declared.parser.matches.Found.{Found}
 use Rattle.clap.proofs.WalkLemmas.{first_value-rows}
 use Rattle.clap.proofs.OnLiterals.{clap_on_literals}
 use Rattle.command_words.specs.Command.{run_command, is_taken, rows_read}
-use Rattle.command_words.specs.Run.{asked_in}
+use Rattle.command_words.specs.Run.{asked_in, is_true}
 
 run_is_free : is_simple_and_free run_command ≡ true
 unfolding clap_on_literals run_command
@@ -45,9 +45,10 @@ pub rows : (a : App) (words : List Text) (found : List Row) → a ≡ run_comman
 unfolding rows_read
 rows a words found same e = e ∙ ap (λ (x : App). matches_of x words) same
 
-pub asked : (f : Found) (words : List Text) (system ticks : Text) → rows_of f ≡ rows_read words
+pub asked : (f : Found) (words : List Text) (system ticks : Text) (hardware : Bool) → rows_of f ≡ rows_read words
     → first_value f (codes "system") ≡ Some system → first_value f (codes "ticks") ≡ Some ticks
-    → asked_in (rows_read words) ≡ Some (record { system = system; ticks = ticks })
-asked f words system ticks same s t =
+    → hardware ≡ is_true (first_value f (codes "hardware"))
+    → asked_in (rows_read words) ≡ Some (record { system = system; ticks = ticks; hardware = hardware })
+asked f words system ticks hardware same s t h =
     let at = λ (id : Text). first_value-rows f id ∙ ap (first_of id) same in
-    rw (← at (codes "system"), s, ← at (codes "ticks"), t) refl
+    rw (← at (codes "system"), s, ← at (codes "ticks"), t, ← at (codes "hardware"), ← h) refl

@@ -1,18 +1,24 @@
 -- Usual words behind `run`, and what they say.
-use Rattle.std.specs.Prelude.{◌≡◌, [], ◌∷◌, codes, Option, Some, None}
+use Rattle.std.specs.Prelude.{◌≡◌, Bool, true, false, [], ◌∷◌, codes, Option, Some, None}
 use Rattle.command_words.specs.Run.{AskedRun, run_words_of}
 
--- the system s.toml and 13 ticks
-abbrev pub thirteen : Option AskedRun
-thirteen = Some (record { system = codes "s.toml"; ticks = codes "13" })
+-- the system s.toml and 13 ticks, with the hardware's lines or without them
+abbrev pub thirteen : Bool → Option AskedRun
+thirteen hardware = Some (record { system = codes "s.toml"; ticks = codes "13"; hardware = hardware })
 
--- the option stands behind the system or before it, and its value in the next word or in the same one
+-- the option stands behind the system or before it, and its value in the next word or in the same one; the hardware's lines are
+-- asked for where the flag stands, wherever it does
 pub record ReadsUsualWords : Type 0 where
-  pub behind : run_words_of (codes "s.toml" ∷ codes "--ticks" ∷ codes "13" ∷ []) ≡ thirteen
-  pub before : run_words_of (codes "--ticks" ∷ codes "13" ∷ codes "s.toml" ∷ []) ≡ thirteen
-  pub joined : run_words_of (codes "s.toml" ∷ codes "--ticks=13" ∷ []) ≡ thirteen
-  pub joined_before : run_words_of (codes "--ticks=13" ∷ codes "s.toml" ∷ []) ≡ thirteen
-  pub after_dashes : run_words_of (codes "--ticks" ∷ codes "13" ∷ codes "--" ∷ codes "s.toml" ∷ []) ≡ thirteen
+  pub behind : run_words_of (codes "s.toml" ∷ codes "--ticks" ∷ codes "13" ∷ []) ≡ thirteen false
+  pub before : run_words_of (codes "--ticks" ∷ codes "13" ∷ codes "s.toml" ∷ []) ≡ thirteen false
+  pub joined : run_words_of (codes "s.toml" ∷ codes "--ticks=13" ∷ []) ≡ thirteen false
+  pub joined_before : run_words_of (codes "--ticks=13" ∷ codes "s.toml" ∷ []) ≡ thirteen false
+  pub after_dashes : run_words_of (codes "--ticks" ∷ codes "13" ∷ codes "--" ∷ codes "s.toml" ∷ []) ≡ thirteen false
+  pub flag_behind : run_words_of (codes "s.toml" ∷ codes "--ticks" ∷ codes "13" ∷ codes "--hardware" ∷ []) ≡ thirteen true
+  pub flag_between : run_words_of (codes "s.toml" ∷ codes "--hardware" ∷ codes "--ticks" ∷ codes "13" ∷ []) ≡ thirteen true
+  pub flag_before : run_words_of (codes "--hardware" ∷ codes "s.toml" ∷ codes "--ticks" ∷ codes "13" ∷ []) ≡ thirteen true
+  pub flag_before_system : run_words_of (codes "--ticks" ∷ codes "13" ∷ codes "--hardware" ∷ codes "s.toml" ∷ []) ≡ thirteen true
+  pub flag_beside_joined : run_words_of (codes "--ticks=13" ∷ codes "--hardware" ∷ codes "s.toml" ∷ []) ≡ thirteen true
 
 -- words of which none says a run
 pub record RefusesOtherWords : Type 0 where
@@ -32,3 +38,9 @@ pub record RefusesOtherWords : Type 0 where
   pub help : run_words_of (codes "--help" ∷ []) ≡ None
   pub short_help : run_words_of (codes "s.toml" ∷ codes "--ticks" ∷ codes "13" ∷ codes "-h" ∷ []) ≡ None
   pub version : run_words_of (codes "--version" ∷ []) ≡ None
+  pub two_flags : run_words_of (codes "s.toml" ∷ codes "--ticks" ∷ codes "13" ∷ codes "--hardware" ∷ codes "--hardware" ∷ []) ≡ None
+  pub flag_with_value : run_words_of (codes "s.toml" ∷ codes "--ticks" ∷ codes "13" ∷ codes "--hardware=true" ∷ []) ≡ None
+  pub flag_with_nothing : run_words_of (codes "s.toml" ∷ codes "--ticks" ∷ codes "13" ∷ codes "--hardware=" ∷ []) ≡ None
+  pub shortened_flag : run_words_of (codes "s.toml" ∷ codes "--ticks" ∷ codes "13" ∷ codes "--hard" ∷ []) ≡ None
+  pub flag_for_value : run_words_of (codes "s.toml" ∷ codes "--ticks" ∷ codes "--hardware" ∷ codes "13" ∷ []) ≡ None
+  pub flag_after_dashes : run_words_of (codes "s.toml" ∷ codes "--ticks" ∷ codes "13" ∷ codes "--" ∷ codes "--hardware" ∷ []) ≡ None

@@ -1,6 +1,9 @@
 -- What the words behind `run` ask for.
-use Rattle.std.specs.Prelude.{◌≡◌, true, false, ◌&&◌, ℕ, List, codes, if◌then◌else◌, Option, Some, None, option_map, option_and_then, Result, Ok, Err}
-use Rattle.clap.specs.Words.{Row, first_of}
+use Rattle.std.specs.Prelude.{◌≡◌, true, false, ◌&&◌, Bool, ℕ, List, codes, if◌then◌else◌, Result, Ok, Err}
+use Rattle.std.specs.Prelude.{Option, Some, None, option_map, option_and_then}
+use Rattle.std.specs.Option.{option_map_or}
+use Rattle.std.specs.Str.{bytes_eq}
+use Rattle.clap.specs.Words.{Row, Text, first_of}
 use Rattle.outside_io.specs.Names.{is_name}
 use Rattle.command_words.specs.Values.{is_number}
 use Rattle.command_words.specs.Command.{is_taken, rows_read}
@@ -8,14 +11,20 @@ use Rattle.command_words.specs.declared.run.RunWords.{RunWords}
 use Rattle.command_words.specs.declared.run.WordsRefusal.{WordsRefusal}
 use Rattle.command_words.specs.declared.run.WordsRefusal.TheVariants.{Usage, NoMemory}
 
--- the name of a system file, and the word of the ticks
+-- the name of a system file, the word of the ticks, and whether the hardware's lines are asked for
 pub record AskedRun : Type 0 where
   pub system : List ℕ
   pub ticks : List ℕ
+  pub hardware : Bool
+
+-- the value of a flag, which is `true` where the flag is among the words and `false` where it isn't
+abbrev pub is_true : Option Text → Bool
+is_true value = option_map_or (λ text. bytes_eq text (codes "true")) value false
 
 -- the values of the arguments
 abbrev pub asked_in : List Row → Option AskedRun
-asked_in rows = option_and_then (λ system. option_map (λ ticks. record { system = system; ticks = ticks })
+asked_in rows = option_and_then (λ system. option_map (λ ticks.
+    record { system = system; ticks = ticks; hardware = is_true (first_of (codes "hardware") rows) })
     (first_of (codes "ticks") rows)) (first_of (codes "system") rows)
 
 -- the system is a name, and the ticks are a number
@@ -27,7 +36,7 @@ unfoldable pub run_words_of : List (List ℕ) → Option AskedRun
 run_words_of words = if is_taken words then option_and_then checked (asked_in (rows_read words)) else None
 
 abbrev pub asked_by : RunWords → AskedRun
-asked_by words = record { system = words.system.now; ticks = words.ticks.now }
+asked_by words = record { system = words.system.now; ticks = words.ticks.now; hardware = words.hardware }
 
 -- the values of words that the command takes, before they are checked; Usage exactly where it takes none, unless memory is
 -- refused

@@ -1,9 +1,10 @@
 // The words behind `run`.
-ghost use Rattle.std.specs.Prelude.{map, string_bytes, IfOk, IsTrue};
+ghost use Rattle.std.specs.Prelude.{◌≡◌, map, string_bytes, IfOk, IsTrue};
+ghost use Rattle.clap.specs.Words.{first_value, found_of};
 ghost use Rattle.command_words.specs.Parse.{Parses};
 ghost use Rattle.outside_io.specs.Names.{is_name as name_test};
 ghost use Rattle.command_words.specs.Values.{is_number as number_test};
-ghost use Rattle.command_words.specs.Run.{run_words_of, ReadsRunWords, ReadsValues};
+ghost use Rattle.command_words.specs.Run.{run_words_of, is_true, ReadsRunWords, ReadsValues};
 
 use crate::command::run_command;
 use crate::values::{is_name, is_number};
@@ -18,6 +19,8 @@ pub struct RunWords<'a> {
     pub system: &'a str,
     /// The ticks, as they were given: 1 to 20 decimal digits.
     pub ticks: &'a str,
+    /// Whether the hardware's lines are asked for.
+    pub hardware: bool,
 }
 
 /// Why words aren't taken.
@@ -29,9 +32,10 @@ pub enum WordsRefusal {
     NoMemory,
 }
 
-/// Reads the words behind `run`, `SYSTEM --ticks N` in either order, or with `--ticks=N`. Which words these are is what
-/// the crate `clap` defines for a command of one positional argument and one option, both of them required. SYSTEM is a
-/// name of 1 to 255 bytes, and N is 1 to 20 decimal digits.
+/// Reads the words behind `run`, `SYSTEM --ticks N` in either order, or with `--ticks=N`, and `--hardware` before, between
+/// or behind these, or nowhere. Which words these are is what the crate `clap` defines for a command of one positional
+/// argument and one option, both of them required, and one flag. SYSTEM is a name of 1 to 255 bytes, and N is 1 to 20
+/// decimal digits.
 #[tactic(auto, unfolding(crate::specs::Run::run_words_of))]
 pub fn read_run_words<'a>(alloc: Global, words: &'a [String]) -> Result<RunWords<'a>, WordsRefusal>
     ensures exact { ReadsRunWords result (run_words_of (map string_bytes words.entry.now)) }
@@ -59,7 +63,21 @@ fn taken_words<'a>(alloc: Global, words: &'a [String]) -> Result<RunWords<'a>, W
         Some(ticks) => ticks,
         None => return Err(WordsRefusal::Usage),
     };
-    Ok(RunWords { system, ticks })
+    Ok(RunWords {
+        system,
+        ticks,
+        hardware: has_flag(&matches, "hardware"),
+    })
+}
+
+// Whether a flag is among the words.
+fn has_flag(matches: &ArgMatches<'_>, id: &str) -> bool
+    ensures { result ≡ is_true (first_value (found_of matches.now) id.now) }
+{
+    match matches.get_str(id) {
+        Some(text) => text == "true",
+        None => false,
+    }
 }
 
 fn parse<'a>(alloc: Global, words: &'a [String]) -> Result<ArgMatches<'a>, WordsRefusal>

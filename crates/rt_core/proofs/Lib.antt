@@ -1,4 +1,10 @@
+pub mod Booted
+pub mod Counts
 pub mod Events
-pub mod Rises
-pub mod Ticks
-pub mod Units
+pub mod FirstBare
+pub mod FirstReal
+pub mod Registers
+pub mod UnitOf
+pub mod TickParts
+pub mod Ticked
+pub mod Timer

@@ -1,6 +1,8 @@
-pub mod Machine
-pub mod Devices
-pub mod Unit
-pub mod Pick
 pub mod Coming
-pub mod End
+pub mod Drained
+pub mod Ends
+pub mod First
+pub mod Start
+pub mod Ticked
+pub mod Unit
+pub mod View

@@ -1,65 +1,49 @@
--- What the guest's unit works on, and what it leaves.
-use Rattle.std.specs.Prelude.{ℕ, ◌≡◌, ◌≤◌, ◌<◌, ◌^◌, ◌++◌, length}
-use Rattle.flat_memory.specs.Parts.{Parts}
-use Rattle.cpu_state.specs.declared.registers.Registers.{Registers}
-use Rattle.i386_effects.specs.Effect.{Effect}
-use Rattle.i386_execute.specs.Unit.{address_behind}
-use Rattle.port_map.specs.Serial.{Serial}
-use Rattle.port_map.specs.declared.com_port.ComPort.TheVariants.{Com1}
-use Rattle.port_board.specs.Board.{rises_of}
-use Rattle.port_board.specs.declared.board.Board.{Board}
-use Rattle.breach_monitor.specs.GuestUnit.{answer_to, first_gate, last_gate}
-use Rattle.breach_monitor.specs.SerialUnit.{unit_at}
-use Rattle.breach_monitor.specs.declared.guest.GuestUnit.{GuestUnit}
-use Rattle.breach_monitor.specs.declared.guest.GuestUnit.TheVariants.{Gate}
-use Rattle.soft_flags.specs.SoftFlags.{HasTableIn}
+-- What the unit of a tick leaves, whoever is on.
+use Rattle.std.specs.Prelude.{◌≡◌, ◌++◌, ℕ, [], if◌then◌else◌, Option, Some, None}
+use Rattle.line_kinds.specs.declared.kinds.Who.{Who}
+use Rattle.line_kinds.specs.declared.kinds.Who.TheVariants.{Guest}
+use Rattle.module_gates.specs.Callers.{who}
+use Rattle.module_gates.specs.declared.caller.Caller.{Caller}
+use Rattle.line_kinds.specs.Calls.{Call}
 use Rattle.trace_lines.specs.TickLines.{TickLines}
+use Rattle.run_lines.specs.Says.{is_guest, pended, reply_in}
 use Rattle.bare_machine.specs.State.{Bare, UnitOutcome, Done}
-use Rattle.rt_core.specs.Machine.{guest_side, com1_of, bare_with, board_after_unit, done_lines}
-use Rattle.rt_core.specs.declared.guest.Guest.{Guest}
+use Rattle.bare_machine.specs.Tick.{asked_also}
+use Rattle.bare_machine.specs.Unit.{guest_unit, unit_after, unit_lines}
+use Rattle.priority_schedule.specs.Tick.{after_unit}
+use Rattle.priority_schedule.specs.Unit.{RealUnit, unit_of}
+use Rattle.hardware_lines.specs.Hardware.{unit_step}
+use Rattle.schedule_laws.specs.Both.{call_among}
+use Rattle.machine_state.specs.Changed.{TellsDues}
+use Rattle.machine_state.specs.declared.change.DueChange.{DueChange}
+use Rattle.machine_state.specs.Parts.{MachineParts}
+use Rattle.machine_state.specs.Running.{IsRunning}
+use Rattle.machine_state.specs.States.{bare_of, hardware_at, machines_of, real_of}
 
--- the memory, the guest's registers and soft side, and the lines of the tick
-pub record UnitParts : Type 0 where
-  pub memory : Parts
-  pub registers : Registers
-  pub guest : Guest
-  pub lines : TickLines
+-- an activity other than the guest, which calls gates
+abbrev pub IsCaller : Who → Option Caller → Type 0
+IsCaller on None = on ≡ Guest
+IsCaller on (Some caller) = on ≡ who caller
 
-abbrev pub parts : Parts → Registers → Guest → TickLines → UnitParts
-parts memory registers guest lines = record { memory = memory; registers = registers; guest = guest; lines = lines }
+-- the guest's unit, where the guest is on
+abbrev pub unit_where : ℕ → Who → Bare → UnitOutcome
+unit_where now on b = if is_guest (Some on) then guest_unit now b else Done b []
 
--- the bare machine over them and COM1
-abbrev pub bare_over : UnitParts → Serial → Bare
-bare_over p com1 = bare_with p.memory p.registers com1 p.guest
+-- the call on FIFOs that it makes, if it makes one
+abbrev pub call_where : ℕ → Who → Bare → Option Call
+call_where now on b = call_among (unit_lines (unit_where now on b))
 
--- a unit can begin: the guest's descriptor table lies on its side, and there is room for a line
-pub record CanBegin (p : UnitParts) : Type 0 where
-  pub size : length p.memory.guest < 2 ^ 32
-  pub table : HasTableIn p.guest.soft (length p.memory.guest)
-  pub room : length p.lines.g ≤ 7
+-- the real-time side's unit: the activity's, or the reply to the guest's call
+abbrev pub real_unit : ℕ → Who → MachineParts → RealUnit
+real_unit now on m = unit_of now (call_where now on (bare_of m)) (real_of m) (Some on)
 
--- a unit is done: it came to this on the bare machine, whose state stands for what it left, and its lines are appended
-pub record Leaves (came : UnitOutcome) (com1 : Serial) (old new : UnitParts) : Type 0 where
-  pub outcome : came ≡ Done (bare_over new com1) (done_lines came)
-  pub lines : new.lines ≡ record old.lines { g = old.lines.g ++ done_lines came }
-  pub table : HasTableIn new.guest.soft (length new.memory.guest)
-  pub size : length new.memory.guest ≡ length old.memory.guest
-  pub real_time : new.memory.real_time ≡ old.memory.real_time
-
--- the processor's unit over the guest's side and COM1
-abbrev pub effect_on : Parts → Registers → Board → Effect Serial
-effect_on memory registers board = unit_at Com1 registers (guest_side memory) (com1_of board)
-
--- such a unit was performed: what its answer is to the guest, and what it left of the memory and the registers
-pub record Performs (e : Effect Serial) (unit : GuestUnit) (old new : Parts) (before after : Registers) : Type 0 where
-  pub answer : unit ≡ answer_to before.eip (address_behind before (guest_side old)) e.answer
-  pub registers : after ≡ e.registers
-  pub side : guest_side new ≡ e.bus.side
-  pub real_time : new.real_time ≡ old.real_time
-  pub size : length new.guest ≡ length old.guest
-  pub gate : (number next : ℕ) → unit ≡ Gate number next → (first_gate ≤ number) × (number ≤ last_gate)
-
--- what is left of the board: where COM1's line rose, that is latched, and no rise is kept back
-pub record LeavesBoard (old new : Board) : Type 0 where
-  pub board : new ≡ board_after_unit (com1_of new) old
-  pub none_rose : rises_of new ≡ 0
+-- the guest does its unit where it is on, with the reply to its call, and more is asked of it where a gate marks a line for it; the
+-- real-time side does its own; what rose by the unit is latched, and a latched line whose owner changed is acknowledged
+pub record UnitStep (now : ℕ) (on : Who) (old new : MachineParts) (before after : TickLines) (change : DueChange) : Type 0 where
+  pub bare : bare_of new ≡ asked_also (pended (real_unit now on old).lines) (unit_after (reply_in (real_unit now on old).lines) (unit_where now on (bare_of old)))
+  pub guest_lines : after.g ≡ before.g ++ unit_lines (unit_where now on (bare_of old))
+  pub real : record { real = real_of new; lines = after.r } ≡ after_unit (record { real = real_of old; lines = before.r }) (real_unit now on old)
+  pub hardware : record { hardware = hardware_at new; lines = after.h }
+      ≡ unit_step (machines_of old) (machines_of new) (record { hardware = hardware_at old; lines = before.h })
+  pub dues : TellsDues change old.all.timeline new.all.timeline
+  pub running : IsRunning new

@@ -1,10 +1,12 @@
 // The end lines.
 ghost use Rattle.std.specs.Prelude.{◌≡◌, ◌∷◌, []};
+ghost use Rattle.line_kinds.specs.declared.kinds.RLine.TheVariants as shown;
 ghost use Rattle.soft_entry.specs.Entry.{flags_word};
 ghost use Rattle.side_digest.specs.Digest.{digest};
-ghost use Rattle.rt_core.specs.End.{quiet_end};
+ghost use Rattle.rt_core.specs.Ends.{live_count, ready_count};
 
 use cpu_state::Registers;
+use executive::Executive;
 use side_digest::side_digest;
 use trace_lines::{GLine, Mode, RLine};
 
@@ -33,16 +35,19 @@ pub fn guest_end(registers: &Registers, flag: bool, mode: Mode) -> GLine
     GLine::End(mode, end_words(registers.eip, eflags, &registers.general))
 }
 
-/// The end lines of a side: its own first one, and its digest.
+/// The guest's end lines: its first one, and the digest of its side.
 pub fn guest_ends(first: GLine, bytes: &[u8]) -> [GLine; 2]
     ensures { result ≡ first ∷ GLine.Memory (digest bytes.now) ∷ [] }
 {
     [first, GLine::Memory(side_digest(bytes))]
 }
 
-/// The end lines of a real-time side without threads.
-pub fn real_time_ends(bytes: &[u8]) -> [RLine; 2]
-    ensures { result ≡ quiet_end bytes.now }
+/// The real-time side's end lines: how many threads are live and how many of them ready, and the digest of the side.
+pub fn real_time_ends(all: &Executive, bytes: &[u8]) -> [RLine; 2]
+    ensures { result ≡ shown.End (live_count all.now) (ready_count all.now) ∷ shown.Memory (digest bytes.now) ∷ [] }
 {
-    [RLine::End(0, 0), RLine::Memory(side_digest(bytes))]
+    [
+        RLine::End(all.threads.count(), all.ready.count()),
+        RLine::Memory(side_digest(bytes)),
+    ]
 }

@@ -1,84 +1,112 @@
--- What is shown of a run without modules is the solution.
-use Rattle.std.proofs.Common.{◌≡◌, ◌≤◌, ℕ, zero, suc, refl, sym, ap, ◌∙◌, arith, false, List, [], ◌++◌, map}
-use Rattle.memory_model.specs.Side.{Side}
-use Rattle.device_script.specs.declared.event.Event.{Event}
+-- What is shown of a run is the solution.
+use Rattle.std.proofs.Common.{◌≡◌, ◌+◌, ◌-◌, ℕ, zero, suc, List, [], ◌∷◌, ◌++◌, map, take, true, false, refl, sym, ap, ◌∙◌, arith}
+use Rattle.std.specs.Prelude.{length}
+use Rattle.std.proofs.Math.Seq.{take-append-add}
+use Rattle.std.proofs.lemmas.List.{length-append, map-append}
 use Rattle.line_kinds.specs.declared.kinds.GLine.{GLine}
+use Rattle.line_kinds.specs.declared.kinds.GLine.TheVariants.{Memory}
 use Rattle.line_kinds.specs.declared.kinds.Line.{Line}
 use Rattle.line_kinds.specs.declared.kinds.Line.TheVariants.{R, G}
 use Rattle.line_kinds.specs.declared.kinds.RLine.{RLine}
 use Rattle.run_lines.proofs.AtTick.{lines_to-same}
 use Rattle.run_lines.specs.Calls.{calls_of}
-use Rattle.run_lines.specs.Ticks.{at_tick, stamped, lines_to}
+use Rattle.run_lines.specs.Ticks.{stamped, lines_to}
+use Rattle.run_output.specs.Halves.{found, guest_in}
 use Rattle.run_output.specs.Merge.{tick_lines}
-use Rattle.schedule_laws.specs.Output.{run_output}
-use Rattle.hardware_lines.specs.Hardware.{hardware_lines}
-use Rattle.bare_machine.specs.State.{Bare}
-use Rattle.bare_machine.specs.Run.{bare, bare_after, bare_lines, bare_end}
-use Rattle.priority_schedule.specs.Run.{real_time, real_after, real_lines, real_end}
-use Rattle.priority_schedule.specs.State.{RealTime}
-use Rattle.rt_core.specs.End.{quiet_end}
-use Rattle.run_files.specs.declared.run.AcceptedRun.{AcceptedRun}
-use Rattle.run_files.specs.declared.run.Shown.TheVariants.{Both}
-use Rattle.run_stream.specs.Lines.{guest_on, guest_lines_at, bare_at, shown_at, lines_shown}
-use Rattle.run_stream.specs.Start.{guest_start}
+use Rattle.side_digest.specs.Digest.{digest}
+use Rattle.bare_machine.specs.Run.{bare_end, end_line}
+use Rattle.priority_schedule.specs.Run.{real_end}
+use Rattle.schedule_laws.specs.Both.{all_g, both_after, both_g, both_h, both_r}
 use Rattle.schedule_laws.specs.Laws.{IsSolution}
-use Rattle.rtlinux_top.specs.Solution.{quiet_start, run_start, real_shown, guest_shown}
-use Rattle.rtlinux_top.proofs.Quiet.{start_on, real_after_is, real_lines_are, guest_on_to}
-use Rattle.rtlinux_top.proofs.Sight.{after_same, lines_same}
-use Rattle.rtlinux_top.proofs.Silence.{no_calls}
+use Rattle.schedule_laws.proofs.BothRuns.{both_runs}
+use Rattle.schedule_laws.proofs.Printed.{loses_nothing}
+use Rattle.schedule_laws.proofs.Solutions.{both_solve, solution_is_g, solution_is_r}
+use Rattle.run_files.specs.declared.run.AcceptedRun.{AcceptedRun}
+use Rattle.run_files.specs.declared.run.Shown.{Shown}
+use Rattle.run_files.specs.declared.run.Shown.TheVariants.{Guest, Both, WithHardware}
+use Rattle.run_stream.specs.Lines.{shown_at, shown_to, lines_shown}
+use Rattle.run_stream.specs.Ran.{guest_shown, real_shown}
+use Rattle.run_stream.specs.Start.{run_start}
+use Rattle.rtlinux_top.specs.Solution.{HasHalves, NoOther, ShowsOutput, ShowsSolution, guest_alone, output_of, shown_of}
 
--- the schedule's half beside no calls
-real_is : (side : Side) (script : List (ℕ × Event)) (n : ℕ) → 1 ≤ n → real_time (start_on side) script n [] ≡ guest_on ++ stamped n (quiet_end side.bytes)
-real_is side script zero h = absurd (omega (arith, h))
-real_is side script (suc n) h =
-    let ends = λ (m : RealTime). stamped (suc n) (real_end m) in
-    let m = real_after (start_on side) script [] (suc n) in
-    ap (λ ls. ls ++ ends m) (lines_to-same (real_lines (start_on side) script []) (λ k. at_tick (suc k) guest_on) (suc n) (λ k _. real_lines_are side script k) ∙ guest_on_to n)
-    ∙ ap (λ x. guest_on ++ ends x) (real_after_is side script (suc n))
+pub shows : ShowsSolution
+shows run = both_solve (run_start run) run.ticks
 
-silent : (run : AcceptedRun) → calls_of (guest_shown run) ≡ []
-silent run = no_calls (guest_start run) run.script.events run.ticks (real_shown run) refl
+pub no_other : NoOther
+no_other run g r s = (solution_is_g (run_start run) run.ticks g r s, solution_is_r (run_start run) run.ticks g r s)
 
-pub shows : (run : AcceptedRun) → 1 ≤ run.ticks → IsSolution (run_start run) run.ticks (guest_shown run) (real_shown run)
-shows run h = record {
-  guest_half = refl;
-  real_half = sym (ap (real_time (quiet_start run) run.script.events run.ticks) (silent run) ∙ real_is (quiet_start run).side run.script.events run.ticks h);
-}
+-- The guest's lines alone
 
-pub no_other : (run : AcceptedRun) → 1 ≤ run.ticks → (g : List (ℕ × GLine)) (r : List (ℕ × RLine)) → IsSolution (run_start run) run.ticks g r
-    → (g ≡ guest_shown run) × (r ≡ real_shown run)
-no_other run h g r sol =
-    let script = run.script.events in
-    let none : calls_of g ≡ [] = ap calls_of sol.guest_half ∙ no_calls (guest_start run) script run.ticks r refl in
-    let same : r ≡ real_shown run = sol.real_half ∙ ap (real_time (quiet_start run) script run.ticks) none ∙ real_is (quiet_start run).side script run.ticks h in
-    (sol.guest_half ∙ ap (bare (guest_start run) script run.ticks) same, same)
+abbrev as_guest : ℕ × GLine → ℕ × Line
+as_guest line = (line.0, G line.1)
 
-pub shows_guest : (run : AcceptedRun) → guest_shown run ≡ lines_to (guest_lines_at run) run.ticks ++ stamped run.ticks (bare_end (bare_at run run.ticks))
-shows_guest run =
-    let n = run.ticks in
-    let d = run.sides.memory.real_time in
-    let b = bare_after (guest_start run) run.script.events (real_shown run) n in
-    ap (λ ls. ls ++ stamped n (bare_end b)) (lines_to-same (bare_lines (guest_start run) run.script.events (real_shown run)) (guest_lines_at run) n (λ k _. lines_same (guest_start run) run.script.events guest_on n d k))
-    ∙ ap (λ (x : Bare). lines_to (guest_lines_at run) n ++ stamped n (bare_end x)) (after_same (guest_start run) run.script.events guest_on n d n)
+stamped-guest : (t : ℕ) (lines : List GLine) → stamped t (map G lines) ≡ map as_guest (stamped t lines)
+stamped-guest t [] = refl
+stamped-guest t (line ∷ lines) = ap (λ rest. (t, G line) ∷ rest) (stamped-guest t lines)
 
-pub shows_output : (run : AcceptedRun)
-    → lines_shown Both run ≡ run_output false (run_start run) run.ticks (real_shown run) (calls_of (guest_shown run))
+alone_to : (run : AcceptedRun) (n : ℕ) → shown_to Guest run n ≡ map as_guest (lines_to (both_g (run_start run)) n)
+unfolding lines_to shown_at
+alone_to run zero = refl
+alone_to run (suc n) =
+    (λ i. alone_to run n i ++ stamped-guest (suc n) (both_g (run_start run) n) i)
+    ∙ sym (map-append as_guest (lines_to (both_g (run_start run)) n) (stamped (suc n) (both_g (run_start run) n)))
+
+but_last : (xs : List (ℕ × GLine)) (a b : ℕ × GLine) → take (length (xs ++ a ∷ b ∷ []) - 1) (xs ++ a ∷ b ∷ []) ≡ xs ++ a ∷ []
+but_last xs a b =
+    let size : length (xs ++ a ∷ b ∷ []) - 1 ≡ length xs + 1 = omega (arith, length-append xs (a ∷ b ∷ [])) in
+    ap (λ n. take n (xs ++ a ∷ b ∷ [])) size ∙ take-append-add xs (a ∷ b ∷ []) 1
+
+shows_alone : (run : AcceptedRun) → lines_shown Guest run ≡ guest_alone (guest_shown run)
+unfolding all_g
+shows_alone run =
+    let b = (both_after (run_start run) run.ticks).bare in
+    let front = lines_to (both_g (run_start run)) run.ticks in
+    let end : ℕ × GLine = (run.ticks, end_line b) in
+    let memory : ℕ × GLine = (run.ticks, Memory (digest b.side.bytes)) in
+    ap (λ lines. lines ++ (run.ticks, G (end_line b)) ∷ []) (alone_to run run.ticks)
+    ∙ sym (map-append as_guest front (end ∷ [])) ∙ ap (map as_guest) (sym (but_last front end memory))
+
+-- Both halves, with the hardware's lines or without
+
+shows_both : (run : AcceptedRun) → lines_shown Both run ≡ output_of false run (guest_shown run) (real_shown run)
 unfolding shown_at
-shows_output run =
+shows_both run =
+    let start = run_start run in
     let n = run.ticks in
-    let script = run.script.events in
-    let guest = guest_start run in
-    let start = quiet_start run in
-    let r = real_shown run in
-    let d = run.sides.memory.real_time in
-    let ends = λ (m : RealTime) (x : Bare). stamped n (map R (real_end m) ++ map G (bare_end x)) in
-    let both : ℕ → List Line = λ k. tick_lines false (real_lines start script [] k) (hardware_lines (run_start run) r [] k) (bare_lines guest script r k) in
-    let lines : List (ℕ × Line) = lines_to both n in
-    let same : lines_to (shown_at Both run) n ≡ lines = lines_to-same (shown_at Both run) both n (λ k _.
-    sym (ap (λ (ls : List RLine). tick_lines false ls [] (bare_lines guest script r k)) (real_lines_are start.side script k)
-    ∙ ap (λ (ls : List GLine). tick_lines false (at_tick (suc k) guest_on) [] ls) (lines_same guest script guest_on n d k))) in
-    let quiet : lines_shown Both run ≡ run_output false (run_start run) n r [] =
-    ap (λ ls. ls ++ stamped n (map R (quiet_end d) ++ map G (bare_end (bare_at run n)))) same
-    ∙ ap (λ (x : RealTime). lines ++ ends x (bare_at run n)) (sym (real_after_is start.side script n))
-    ∙ ap (λ (x : Bare). lines ++ ends (real_after start script [] n) x) (sym (after_same guest script guest_on n d n)) in
-    quiet ∙ sym (ap (run_output false (run_start run) n r) (silent run))
+    let ends = stamped n (map R (real_end (both_after start n).real) ++ map G (bare_end (both_after start n).bare)) in
+    ap (λ lines. lines ++ ends) (lines_to-same (shown_at Both run) (λ k. tick_lines false (both_r start k) (both_h start k) (both_g start k)) n (λ k _. refl))
+    ∙ sym ((both_runs start n).output false)
+
+shows_hardware : (run : AcceptedRun) → lines_shown WithHardware run ≡ output_of true run (guest_shown run) (real_shown run)
+unfolding shown_at
+shows_hardware run =
+    let start = run_start run in
+    let n = run.ticks in
+    let ends = stamped n (map R (real_end (both_after start n).real) ++ map G (bare_end (both_after start n).bare)) in
+    ap (λ lines. lines ++ ends) (lines_to-same (shown_at WithHardware run) (λ k. tick_lines true (both_r start k) (both_h start k) (both_g start k)) n (λ k _. refl))
+    ∙ sym ((both_runs start n).output true)
+
+pub shows_output : ShowsOutput
+shows_output Guest run = shows_alone run
+shows_output Both run = shows_both run
+shows_output WithHardware run = shows_hardware run
+
+-- and each half finds its lines in it
+
+found_alone : (lines : List (ℕ × GLine)) → found guest_in (map as_guest lines) ≡ lines
+found_alone [] = refl
+found_alone (line ∷ lines) = ap (λ rest. line ∷ rest) (found_alone lines)
+
+pub halves : (which : Shown) (run : AcceptedRun) (g : List (ℕ × GLine)) (r : List (ℕ × RLine)) → IsSolution (run_start run) run.ticks g r → HasHalves which run (shown_of which run g r) g r
+halves Guest run g r s = found_alone (take (length g - 1) g)
+halves Both run g r s = (
+  loses_nothing.of_guest false (run_start run) run.ticks r (calls_of g) ∙ sym s.guest_half,
+  loses_nothing.of_real false (run_start run) run.ticks r (calls_of g) ∙ sym s.real_half,
+)
+halves WithHardware run g r s = (
+  loses_nothing.of_guest true (run_start run) run.ticks r (calls_of g) ∙ sym s.guest_half,
+  (
+    loses_nothing.of_real true (run_start run) run.ticks r (calls_of g) ∙ sym s.real_half,
+    loses_nothing.of_hardware (run_start run) run.ticks r (calls_of g),
+  ),
+)

@@ -1,5 +1,5 @@
 -- What a call comes to, as far as its answer tells: the private call below the public one has these as one fact.
-use Rattle.std.specs.Prelude.{◌≡◌, ◌≢◌, ◌<◌, ◌⊎◌, ℕ, List, Option}
+use Rattle.std.specs.Prelude.{◌≡◌, ◌<◌, ◌⊎◌, ℕ, List, Option}
 use Rattle.outside_io.specs.Causes.{Rose}
 use Rattle.outside_io.specs.Sink.{appended}
 use Rattle.outside_io.specs.Store.{Files}
@@ -9,7 +9,7 @@ use Rattle.rtlinux_top.specs.declared.last.Last.{Last}
 use Rattle.rtlinux_top.specs.declared.last.Last.TheVariants.{Nothing}
 use Rattle.rtlinux_top.specs.declared.status.Device.TheVariants.{Read, Write}
 use Rattle.rtlinux_top.specs.declared.status.Status.{Status}
-use Rattle.rtlinux_top.specs.declared.status.Status.TheVariants.{Outside, RtFault, Usage, NoMemory}
+use Rattle.rtlinux_top.specs.declared.status.Status.TheVariants.{Outside, Usage, NoMemory}
 use Rattle.rtlinux_top.specs.Answers.{AnswersTo, AnswersWords, RefusesTicks, ReadFailed}
 use Rattle.rtlinux_top.specs.Status.{IsDetermined, HasRun}
 use Rattle.rtlinux_top.specs.Verdict.{refused_by}
@@ -28,5 +28,4 @@ pub record IsCourse (asked : Asked) (held : Option Files) (fetches_failed fetche
   pub sink_fault : puts_failed < puts_failed_now → status ≡ Outside Write
   pub store_fault : fetches_failed < fetches_failed_now → (status ≡ Outside Read) ⊎ (status ≡ Outside Write)
   pub memory : status ≡ NoMemory → new ≡ old
-  pub no_rt_fault : status ≢ RtFault
   pub dropped : ¬ HasRun status → last ≡ Nothing

@@ -1,5 +1,5 @@
 -- What is to be answered and written, from the words and from what each name holds.
-use Rattle.std.specs.Prelude.{ℕ, List, [], length, nat_lt, if◌then◌else◌, Some, Result, Ok, Err}
+use Rattle.std.specs.Prelude.{ℕ, Bool, List, [], length, nat_lt, if◌then◌else◌, Some, Result, Ok, Err}
 use Rattle.outside_io.specs.Store.{Files}
 use Rattle.run_files.specs.declared.cause.Cause.{Cause}
 use Rattle.run_files.specs.declared.cause.Cause.TheVariants as cause
@@ -7,9 +7,9 @@ use Rattle.run_files.specs.declared.run.AcceptedRun.{AcceptedRun}
 use Rattle.run_files.specs.Line.{refusal_text}
 use Rattle.run_files.specs.Verdict.{About, Verdict, ◌>>=◌, made_of_file, ticks_in, run_ticks, run_verdict}
 use Rattle.rtlinux_top.specs.declared.status.Status.{Status}
-use Rattle.rtlinux_top.specs.declared.status.Status.TheVariants.{Done, Refused, Outside, Breach, Usage}
+use Rattle.rtlinux_top.specs.declared.status.Status.TheVariants.{Done, Refused, Outside, Breach, RtFault, Usage}
 use Rattle.rtlinux_top.specs.declared.status.Device.TheVariants.{Read}
-use Rattle.run_stream.specs.Lines.{run_shown, has_breach, text_of}
+use Rattle.run_stream.specs.Lines.{run_shown, has_breach, has_fault, text_of}
 use Rattle.rtlinux_top.specs.Run.{flat_run}
 use Rattle.rtlinux_top.specs.Words.{Asked, Unknown, Flat, System}
 
@@ -45,10 +45,14 @@ status_by cause.Outside = refused_by 21 0
 status_by cause.Overlap = refused_by 22 0
 status_by (cause.Line line) = refused_by 30 0
 
+-- the answer after all ticks: whether a breach is among the lines that are shown, or else a fault
+abbrev pub status_after : Bool → Bool → Status
+status_after breach fault = if breach then Breach else if fault then RtFault else Done
+
 -- the answer to a verdict
 abbrev pub status_of : Verdict → Status
 status_of (Err about) = status_by about.0
-status_of (Ok run) = if has_breach (run_shown run) then Breach else Done
+status_of (Ok run) = status_after (has_breach (run_shown run)) (has_fault (run_shown run))
 
 -- what is written for a verdict
 abbrev pub verdict_output : Verdict → List ℕ

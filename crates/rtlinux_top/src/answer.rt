@@ -57,8 +57,9 @@ fn answer<S: Store, K: Sink>(
 /// Does all that the program does for the words after its name.
 ///
 /// `flat IMAGE TICKS` runs the file IMAGE, which stands at address 0 of a guest's side of 65,536 bytes, for so many ticks,
-/// and writes its G lines and its first end line. `run SYSTEM --ticks N` runs the system file SYSTEM with its image and its
-/// script, and writes the lines of both halves with all end lines. Each line is one put. A refusal writes one error line and
+/// and writes its G lines and its first end line. `run SYSTEM --ticks N [--hardware]` runs the system file SYSTEM with its image and
+/// its script, and writes the lines of both halves with all end lines, and with `--hardware` those of the hardware between them. Each line
+/// is one put. A refusal writes one error line and
 /// nothing else. `last` is the machine that ran, where all ticks ran and all was written, and else nothing.
 pub fn rtlinux<S: Store, K: Sink>(
     alloc: Global,
@@ -68,7 +69,8 @@ pub fn rtlinux<S: Store, K: Sink>(
     last: &mut Last,
 ) -> Status
     // The headline: the guest's lines that `run` writes are those of the bare machine on the image beside the real-time lines, and
-    // these are those of the priority schedule beside the guest's calls. One pair of lines meets both.
+    // these are those of the priority schedule beside the guest's calls. One pair of lines meets both, and in what is written each half
+    // finds just its own lines; the hardware's lines, where they are asked for, are those of its definition beside both.
     ensures headline { IsDetermined result → IfSome (S.held store.old) (λ files.
         WritesSolution (verdict_of (command_of words.now.items) files) (K.written sink.old) (K.written sink.new)) }
 
@@ -102,11 +104,11 @@ pub fn rtlinux<S: Store, K: Sink>(
         (S.faults store.old) (S.faults store.new) (S.failed_last store.new)
         × WritesPartOfLine (S.failed_last store.new) (K.written sink.old) (K.written sink.new))) }
 
-    // Want of memory writes nothing, and no real-time activity is there to fault.
+    // Want of memory writes nothing.
     ensures memory { result ≡ Status.NoMemory → K.written sink.new ≡ K.written sink.old }
-    ensures no_rt_fault { result ≢ Status.RtFault }
 
-    // The run of such an answer, whatever the store tells, and its machine.
+    // The run of such an answer, whatever the store tells, and its machine, which stands for the three states of the definitions after all
+    // ticks: the bare machine's, the real-time side's and the hardware's.
     ensures kept { HasRun result → (run : AcceptedRun) × Runs (command_of words.now.items) (S.held store.old) result
         (K.written sink.old) (K.written sink.new) last.new run }
     ensures dropped { ¬ HasRun result → last.new ≡ Last.Nothing }

@@ -12,6 +12,7 @@ ghost use Rattle.rtlinux_top.specs.Verdict.{verdict_of, asked_ticks, flat_in};
 
 use crate::memory::{SIDE_SIZE, flat_sides};
 use command_words::{is_name, is_number, read_ticks};
+use item_list::Items;
 use outside_io::Store;
 use run_files::{AcceptedRun, Cause, Refusal, Shown, refused};
 use run_request::{fetch_file, no_script, request_run};
@@ -30,6 +31,7 @@ fn accept_flat(alloc: Global, name: &[u8], image: &[u8], ticks: u32) -> Result<A
     match flat_sides(alloc, image) {
         Ok(sides) => Ok(AcceptedRun {
             sides,
+            inits: Items::empty(alloc),
             script: no_script(alloc),
             ticks,
             shown: Shown::Guest,

@@ -4,7 +4,7 @@ ghost use Rattle.outside_io.specs.Causes.{Rose};
 ghost use Rattle.run_request.specs.Open.{IsReady};
 ghost use Rattle.rtlinux_top.specs.Answers.{AnswersBy};
 ghost use Rattle.rtlinux_top.specs.Status.{IsDetermined, HasRun};
-ghost use Rattle.rtlinux_top.specs.Verdict.{verdict_output, refused_by as refused_of};
+ghost use Rattle.rtlinux_top.specs.Verdict.{verdict_output, refused_by as refused_of, status_after as status_after_of};
 ghost use Rattle.run_stream.specs.Writes.{AppendsPart};
 ghost use Rattle.rtlinux_top.specs.Last.{KeepsMachine};
 
@@ -14,6 +14,19 @@ use outside_io::Sink;
 use run_files::AcceptedRun;
 use run_stream::{RunFault, run_streaming};
 use std::alloc::Global;
+
+// The answer after all ticks.
+fn status_after(breach: bool, fault: bool) -> Status
+    ensures { result ≡ status_after_of breach fault }
+{
+    if breach {
+        Status::Breach
+    } else if fault {
+        Status::RtFault
+    } else {
+        Status::Done
+    }
+}
 
 /// Runs what was accepted and writes its lines. The machine is kept where all ticks ran and all was written.
 pub fn run_accepted<K: Sink>(
@@ -33,18 +46,13 @@ pub fn run_accepted<K: Sink>(
         → AppendsPart (K.written sink.old) (K.written sink.new) (verdict_output (Ok run)) }
     ensures fault { K.faults sink.old < K.faults sink.new → result ≡ Status.Outside Device.Write }
     ensures memory { result ≡ Status.NoMemory → K.written sink.new ≡ K.written sink.old }
-    ensures others { (result ≢ Status.Usage) × (result ≢ Status.RtFault)
-        × (result ≢ Status.Outside Device.Read) × (result ≢ refused_of 40 0) }
+    ensures others { (result ≢ Status.Usage) × (result ≢ Status.Outside Device.Read) × (result ≢ refused_of 40 0) }
 {
     *last = Last::Nothing;
     match run_streaming(alloc, run, sink) {
         Ok(finished) => {
             *last = Last::Ran(finished.machine);
-            if finished.breach {
-                Status::Breach
-            } else {
-                Status::Done
-            }
+            status_after(finished.breach, finished.fault)
         }
         Err(RunFault::Sink) => Status::Outside(Device::Write),
         Err(RunFault::NoMemory) => Status::NoMemory,

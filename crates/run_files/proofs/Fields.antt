@@ -1,19 +1,21 @@
 -- What the fields of an accepted system keep.
 use Rattle.std.proofs.Common.{◌≡◌, ℕ, ◌≤◌, pos, negsuc, Bool, true, false, List, [], ◌∷◌, Option, Some, None, Ok, Err, arith, refl, ap, ◌∙◌, codes, option_map}
-use Rattle.std.specs.Prelude.{if◌then◌else◌, IfSome, IfOk, Result}
+use Rattle.std.specs.Prelude.{if◌then◌else◌, IfSome, IfOk, Result, All, length, nat_le}
+use Rattle.std.proofs.lemmas.List.Elements.{All-nil, All-cons}
 use Rattle.std.proofs.lemmas.Bool.Decides.{nat_tests}
-use Rattle.toml.specs.Data.{Data, string, integer, float, boolean, datetime, array, table, Members, get_member}
+use Rattle.toml.specs.Data.{Data, string, integer, float, boolean, datetime, array, table, Items, no_items, item, Members, get_member}
 use Rattle.system_file.specs.declared.system.System.{System}
-use Rattle.system_file.specs.Fields.{required, optional, size_of, is_size, name_of, names_of, version_of, fields_of, system_of, has_only_fields, ◌>>=◌}
+use Rattle.system_file.specs.Fields.{required, optional, size_of, is_size, name_of, names_in, names_of, version_of, fields_of, system_of, has_only_fields, ◌>>=◌}
 use Rattle.system_file.specs.Read.{document_of}
 use Rattle.run_files.specs.declared.cause.Refusal.{Refusal}
 use Rattle.outside_io.specs.Names.{is_name, IsName}
 use Rattle.run_files.specs.Refusal.{Accepts}
 use Rattle.run_files.specs.Verdict.{about}
 use Rattle.run_files.specs.declared.cause.Cause.{Cause}
-use Rattle.run_files.specs.Files.{IsAccepted, system_in, members_in, fields_in, if_no_modules}
+use Rattle.run_files.specs.Files.{IsAccepted, system_in, members_in, fields_in}
 
-required_good : {A : Type 0} (P : A → Type 0) (read : Data → Option A) (o : Option Data) (x : A) → ((d : Data) (y : A) → read d ≡ Some y → P y) → required read o ≡ Some x → P x
+required_good : {A : Type 0} (P : A → Type 0) (read : Data → Option A) (o : Option Data) (x : A)
+    → ((d : Data) (y : A) → read d ≡ Some y → P y) → required read o ≡ Some x → P x
 required_good P read None x good same = absurd cc
 required_good P read (Some d) x good same = good d x same
 
@@ -50,19 +52,53 @@ script_good (Some d) script same = go (name_of d) refl script same
     go (Some name) is None same = absurd cc
     go (Some name) is (Some other) same = let equal : name ≡ other = cc in name_good d other (is ∙ ap Some equal)
 
--- what each field keeps
-pub record Keeps (s : System) : Type 0 where
-  pub image : IsName s.image
-  pub script : IfSome s.script IsName
-  pub guest : (65536 ≤ s.guest_memory) × (s.guest_memory ≤ 16777216)
-  pub real_time : (65536 ≤ s.real_time_memory) × (s.real_time_memory ≤ 4194304)
+-- names, one before others
+front_good : (first : Option (List ℕ)) (rest : Option (List (List ℕ))) (names : List (List ℕ))
+    → ((name : List ℕ) → first ≡ Some name → IsName name) → ((others : List (List ℕ)) → rest ≡ Some others → All IsName others)
+    → (first >>= λ name. option_map (λ others. name ∷ others) rest) ≡ Some names → All IsName names
+front_good None rest names first_good rest_good same = absurd cc
+front_good (Some name) None names first_good rest_good same = absurd cc
+front_good (Some name) (Some others) names first_good rest_good same =
+    let is : name ∷ others ≡ names = cc in
+    rw (← is) (All-cons IsName name others (first_good name refl) (rest_good others refl))
+
+items_good : (ds : Items) (names : List (List ℕ)) → names_in ds ≡ Some names → All IsName names
+items_good no_items names same = let is : [] ≡ names = cc in rw (← is) (All-nil IsName)
+items_good (item d ds) names same =
+    front_good (name_of d) (names_in ds) names (λ name is. name_good d name is) (λ others is. items_good ds others is) same
+
+-- an array of names, at most 16
+abbrev IsNames : List (List ℕ) → Type 0
+IsNames names = All IsName names × (length names ≤ 16)
+
+few_good : (o : Option (List (List ℕ))) (names : List (List ℕ)) → ((read : List (List ℕ)) → o ≡ Some read → All IsName read)
+    → (o >>= λ read. if nat_le (length read) 16 then Some read else None) ≡ Some names → IsNames names
+few_good None names good same = absurd cc
+few_good (Some read) names good same =
+    let got = test (nat_le (length read) 16) read names same in
+    (rw (← got.1) (good read refl), rw (← got.1) (grind (arith, nat_tests)))
+
+names_good : (d : Data) (names : List (List ℕ)) → names_of d ≡ Some names → IsNames names
+names_good (array ds) names same = few_good (names_in ds) names (λ read is. items_good ds read is) same
+names_good (string text) names same = absurd cc
+names_good (integer n) names same = absurd cc
+names_good (float x) names same = absurd cc
+names_good (boolean b) names same = absurd cc
+names_good (datetime x) names same = absurd cc
+names_good (table ms) names same = absurd cc
+
+modules_good : (o : Option Data) (names : List (List ℕ)) → optional names_of [] o ≡ Some names → IsNames names
+modules_good None names same = let is : [] ≡ names = cc in rw (← is) (All-nil IsName, omega arith)
+modules_good (Some d) names same = names_good d names same
 
 abbrev made : ℕ → List ℕ → ℕ → ℕ → List (List ℕ) → Option (List ℕ) → System
 made version image guest real_time modules script =
     record { version = version; image = image; guest_memory = guest; real_time_memory = real_time; modules = modules; script = script }
 
+-- the system that is made keeps what its fields keep
 whole : (version : ℕ) (image : List ℕ) (guest real_time : ℕ) (modules : List (List ℕ)) (script : Option (List ℕ)) (s : System)
-    → Some (made version image guest real_time modules script) ≡ Some s → Keeps (made version image guest real_time modules script) → Keeps s
+    → Some (made version image guest real_time modules script) ≡ Some s
+    → IsAccepted (made version image guest real_time modules script) → IsAccepted s
 whole version image guest real_time modules script s same keeps =
     let is : made version image guest real_time modules script ≡ s = cc in rw (← is) keeps
 
@@ -85,17 +121,19 @@ chain v i g r m c = do
 
 chain_keeps : (v : Option ℕ) (i : Option (List ℕ)) (g r : Option ℕ) (m : Option (List (List ℕ))) (c : Option (Option (List ℕ))) (s : System)
     → ((x : List ℕ) → i ≡ Some x → IsName x) → ((n : ℕ) → g ≡ Some n → IsGuestSize n) → ((n : ℕ) → r ≡ Some n → IsRealTimeSize n)
-    → ((x : Option (List ℕ)) → c ≡ Some x → IfSome x IsName) → chain v i g r m c ≡ Some s → Keeps s
-chain_keeps None i g r m c s ik gk rk ck same = absurd cc
-chain_keeps (Some v) None g r m c s ik gk rk ck same = absurd cc
-chain_keeps (Some v) (Some i) None r m c s ik gk rk ck same = absurd cc
-chain_keeps (Some v) (Some i) (Some g) None m c s ik gk rk ck same = absurd cc
-chain_keeps (Some v) (Some i) (Some g) (Some r) None c s ik gk rk ck same = absurd cc
-chain_keeps (Some v) (Some i) (Some g) (Some r) (Some m) None s ik gk rk ck same = absurd cc
-chain_keeps (Some v) (Some i) (Some g) (Some r) (Some m) (Some c) s ik gk rk ck same =
-    whole v i g r m c s same (record { image = ik i refl; script = ck c refl; guest = gk g refl; real_time = rk r refl })
+    → ((x : List (List ℕ)) → m ≡ Some x → IsNames x) → ((x : Option (List ℕ)) → c ≡ Some x → IfSome x IsName)
+    → chain v i g r m c ≡ Some s → IsAccepted s
+chain_keeps None i g r m c s ik gk rk mk ck same = absurd cc
+chain_keeps (Some v) None g r m c s ik gk rk mk ck same = absurd cc
+chain_keeps (Some v) (Some i) None r m c s ik gk rk mk ck same = absurd cc
+chain_keeps (Some v) (Some i) (Some g) None m c s ik gk rk mk ck same = absurd cc
+chain_keeps (Some v) (Some i) (Some g) (Some r) None c s ik gk rk mk ck same = absurd cc
+chain_keeps (Some v) (Some i) (Some g) (Some r) (Some m) None s ik gk rk mk ck same = absurd cc
+chain_keeps (Some v) (Some i) (Some g) (Some r) (Some m) (Some c) s ik gk rk mk ck same =
+    let names = mk m refl in
+    whole v i g r m c s same (record { image = ik i refl; script = ck c refl; guest = gk g refl; real_time = rk r refl; modules = names.0; few = names.1 })
 
-fields_keep : (ms : Members) (s : System) → fields_of ms ≡ Some s → Keeps s
+fields_keep : (ms : Members) (s : System) → fields_of ms ≡ Some s → IsAccepted s
 unfolding fields_of
 fields_keep ms s same = chain_keeps
     (required version_of (get_member (codes "version") ms))
@@ -108,28 +146,20 @@ fields_keep ms s same = chain_keeps
     (λ x is. required_good IsName name_of (get_member (codes "image") ms) x (λ d y h. name_good d y h) is)
     (λ n is. required_good IsGuestSize (size_of 16777216) (get_member (codes "guest_memory") ms) n (λ d y h. size_good 16777216 d y h) is)
     (λ n is. required_good IsRealTimeSize (size_of 4194304) (get_member (codes "real_time_memory") ms) n (λ d y h. size_good 4194304 d y h) is)
+    (λ x is. modules_good (get_member (codes "modules") ms) x is)
     (λ x is. script_good (get_member (codes "script") ms) x is)
     same
 
-system_keeps : (ms : Members) (s : System) → system_of ms ≡ Some s → Keeps s
+system_keeps : (ms : Members) (s : System) → system_of ms ≡ Some s → IsAccepted s
 system_keeps ms s same = go (has_only_fields ms) same
   where
-    go : (b : Bool) → (if b then fields_of ms else None) ≡ Some s → Keeps s
+    go : (b : Bool) → (if b then fields_of ms else None) ≡ Some s → IsAccepted s
     go true h = fields_keep ms s h
     go false h = absurd cc
 
-alone_is : (modules : List (List ℕ)) (t s : System) → if_no_modules modules t ≡ Ok s → (t ≡ s) × (modules ≡ [])
-alone_is [] t s same = (cc, refl)
-alone_is (name ∷ names) t s same = absurd cc
-
-accepted : (t s : System) → Keeps t → if_no_modules t.modules t ≡ Ok s → IsAccepted s
-accepted t s keeps same =
-    let is = alone_is t.modules t s same in
-    rw (← is.0) (record { image = keeps.image; script = keeps.script; guest = keeps.guest; real_time = keeps.real_time; modules = is.1 })
-
-in_fields : (o : Option System) (s : System) → ((t : System) → o ≡ Some t → Keeps t) → fields_in o ≡ Ok s → IsAccepted s
+in_fields : (o : Option System) (s : System) → ((t : System) → o ≡ Some t → IsAccepted t) → fields_in o ≡ Ok s → IsAccepted s
 in_fields None s keeps same = absurd cc
-in_fields (Some t) s keeps same = accepted t s (keeps t refl) same
+in_fields (Some t) s keeps same = let is : t ≡ s = cc in rw (← is) (keeps t refl)
 
 in_members : (o : Option Members) (s : System) → members_in o ≡ Ok s → IsAccepted s
 in_members None s same = absurd cc

@@ -1,5 +1,5 @@
 -- The files of a run: what the bytes of each make, or why they are refused.
-use Rattle.std.specs.Prelude.{◌≡◌, ◌≤◌, ◌^◌, ℕ, List, [], ◌∷◌, IfSome, Option, Some, None, Result, Ok, Err}
+use Rattle.std.specs.Prelude.{◌≤◌, ◌^◌, ℕ, List, length, All, IfSome, Option, Some, None, Result, Ok, Err}
 use Rattle.outside_io.specs.Names.{IsName}
 use Rattle.toml.specs.Data.{Members}
 use Rattle.system_file.specs.declared.system.System.{System}
@@ -8,7 +8,9 @@ use Rattle.system_file.specs.Read.{document_of}
 use Rattle.elf_loader.specs.declared.image.Image.{Image}
 use Rattle.elf_loader.specs.File.{image_of}
 use Rattle.run_files.specs.declared.sides.Sides.{Sides}
+use Rattle.run_files.specs.declared.modules.Loaded.{Loaded}
 use Rattle.run_files.specs.Guest.{Misfit, PartOutside, PartsOverlap}
+use Rattle.run_files.specs.Modules.{with_module}
 use Rattle.run_files.specs.Sides.{sides_of}
 use Rattle.device_script.specs.declared.script.Script.{Script}
 use Rattle.device_script.specs.Event.{Events}
@@ -22,17 +24,9 @@ file_limit = 2 ^ 25
 
 -- The system file
 
-abbrev pub if_no_modules : List (List ℕ) → System → Result System Cause
-if_no_modules [] system = Ok system
-if_no_modules (name ∷ names) system = Err cause.Field
-
--- a system without modules; one that has some is refused by its field
-abbrev pub without_modules : System → Result System Cause
-without_modules system = if_no_modules system.modules system
-
 abbrev pub fields_in : Option System → Result System Cause
 fields_in None = Err cause.Field
-fields_in (Some system) = without_modules system
+fields_in (Some system) = Ok system
 
 abbrev pub members_in : Option Members → Result System Cause
 members_in None = Err cause.Document
@@ -48,26 +42,28 @@ pub record IsAccepted (system : System) : Type 0 where
   pub script : IfSome system.script IsName
   pub guest : (65536 ≤ system.guest_memory) × (system.guest_memory ≤ 16777216)
   pub real_time : (65536 ≤ system.real_time_memory) × (system.real_time_memory ≤ 4194304)
-  pub modules : system.modules ≡ []
+  pub modules : All IsName system.modules
+  pub few : length system.modules ≤ 16
 
--- The image
+-- Images
 
-abbrev pub fitted : Result Sides Misfit → Result Sides Cause
-fitted (Ok sides) = Ok sides
+abbrev pub fitted : {A : Type 0} → Result A Misfit → Result A Cause
+fitted (Ok placed) = Ok placed
 fitted (Err PartOutside) = Err cause.Outside
 fitted (Err PartsOverlap) = Err cause.Overlap
 
--- both sides, of the sizes that the system has
-abbrev pub placed_in : System → Image → Result Sides Cause
-placed_in system image = fitted (sides_of system.guest_memory system.real_time_memory image)
+-- first that a file is an image (ELF32), then that it fits
+abbrev pub placed_by : {A : Type 0} → (Image → Result A Misfit) → Result Image ℕ → Result A Cause
+placed_by place (Ok image) = fitted (place image)
+placed_by place (Err rule) = Err (cause.Image rule)
 
-abbrev pub image_in : System → Result Image ℕ → Result Sides Cause
-image_in system (Ok image) = placed_in system image
-image_in system (Err rule) = Err (cause.Image rule)
-
--- first that the file is an image (ELF32), then that it fits
+-- both sides, of the sizes that the system has, with the guest's image
 unfoldable pub sides_in : System → List ℕ → Result Sides Cause
-sides_in system bytes = image_in system (image_of bytes)
+sides_in system bytes = placed_by (sides_of system.guest_memory system.real_time_memory) (image_of bytes)
+
+-- one more module
+unfoldable pub module_in : Loaded → List ℕ → Result Loaded Cause
+module_in loaded bytes = placed_by (with_module loaded) (image_of bytes)
 
 -- The script
 

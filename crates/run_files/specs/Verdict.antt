@@ -1,17 +1,20 @@
 -- What the words of `run` and the files come to: the first cause of a refusal with the name or the word that it is about, in
--- the order of the words, the ticks, the system file, the image and the script; or else the run that is accepted.
-use Rattle.std.specs.Prelude.{ℕ, List, [], length, nat_lt, if◌then◌else◌, Option, Some, None, Result, Ok, Err}
+-- the order of the words, the ticks, the system file, the image, the modules and the script; or else the run that is accepted.
+use Rattle.std.specs.Prelude.{ℕ, Bool, true, false, List, [], ◌∷◌, length, nat_lt, if◌then◌else◌, Option, Some, None, Result, Ok, Err}
 use Rattle.outside_io.specs.Store.{Files}
 use Rattle.command_words.specs.Values.{ticks_of}
 use Rattle.command_words.specs.Run.{AskedRun}
 use Rattle.system_file.specs.declared.system.System.{System}
 use Rattle.run_files.specs.declared.sides.Sides.{Sides}
+use Rattle.run_files.specs.declared.modules.Loaded.{Loaded}
 use Rattle.device_script.specs.declared.script.Script.{Script}
 use Rattle.run_files.specs.declared.run.AcceptedRun.{AcceptedRun}
-use Rattle.run_files.specs.declared.run.Shown.TheVariants.{Both}
+use Rattle.run_files.specs.declared.run.Shown.{Shown}
+use Rattle.run_files.specs.declared.run.Shown.TheVariants.{Both, WithHardware}
 use Rattle.run_files.specs.declared.cause.Cause.{Cause}
 use Rattle.run_files.specs.declared.cause.Cause.TheVariants as cause
-use Rattle.run_files.specs.Files.{file_limit, system_in, sides_in, script_in}
+use Rattle.run_files.specs.Files.{file_limit, system_in, sides_in, module_in, script_in}
+use Rattle.run_files.specs.Modules.{before_modules}
 
 -- a cause, and the name of the file or the word
 abbrev pub About : Type 0
@@ -44,20 +47,36 @@ abbrev pub script_named : Files → Option (List ℕ) → Result Script About
 script_named files None = Ok (record { events = [] })
 script_named files (Some name) = made_of_file script_in files name
 
--- the script, and with it the run, of which both halves are shown
-abbrev pub script_verdict : Option (List ℕ) → Sides → ℕ → Files → Verdict
-script_verdict name sides ticks files =
-    script_named files name >>= λ script. Ok (record { sides = sides; script = script; ticks = ticks; shown = Both })
+-- the lines that are shown: those of both halves, and the hardware's where they are asked for
+abbrev pub shown_by : Bool → Shown
+shown_by false = Both
+shown_by true = WithHardware
 
--- the image, and then the script
-abbrev pub image_verdict : System → ℕ → Files → Verdict
-image_verdict system ticks files =
-    made_of_file (sides_in system) files system.image >>= λ sides. script_verdict system.script sides ticks files
+-- the script, and with it the run
+abbrev pub script_verdict : Option (List ℕ) → Loaded → ℕ → Shown → Files → Verdict
+script_verdict name loaded ticks shown files =
+    script_named files name
+    >>= λ script. Ok (record { sides = loaded.sides; inits = loaded.inits; script = script; ticks = ticks; shown = shown })
+
+-- the modules of these names, each on what those before it left
+abbrev pub modules_loaded : Files → Loaded → List (List ℕ) → Result Loaded About
+modules_loaded files loaded [] = Ok loaded
+modules_loaded files loaded (name ∷ names) = made_of_file (module_in loaded) files name >>= λ next. modules_loaded files next names
+
+-- the modules, and then the script
+abbrev pub modules_verdict : System → Sides → ℕ → Shown → Files → Verdict
+modules_verdict system sides ticks shown files =
+    modules_loaded files (before_modules sides) system.modules >>= λ loaded. script_verdict system.script loaded ticks shown files
+
+-- the image, and then the modules
+abbrev pub image_verdict : System → ℕ → Shown → Files → Verdict
+image_verdict system ticks shown files =
+    made_of_file (sides_in system) files system.image >>= λ sides. modules_verdict system sides ticks shown files
 
 -- the system file, and then the image
-unfoldable pub system_verdict : List ℕ → ℕ → Files → Verdict
-system_verdict name ticks files =
-    made_of_file system_in files name >>= λ system. image_verdict system ticks files
+unfoldable pub system_verdict : List ℕ → ℕ → Shown → Files → Verdict
+system_verdict name ticks shown files =
+    made_of_file system_in files name >>= λ system. image_verdict system ticks shown files
 
 -- the ticks that a word says, or their refusal
 abbrev pub ticks_said : List ℕ → Option ℕ → Result ℕ About
@@ -75,4 +94,4 @@ run_ticks (Some run) = ticks_in run.ticks
 -- the words come first, then the ticks, then the files
 abbrev pub run_verdict : Option AskedRun → Files → Verdict
 run_verdict None files = Err (cause.Words, [])
-run_verdict (Some run) files = ticks_in run.ticks >>= λ ticks. system_verdict run.system ticks files
+run_verdict (Some run) files = ticks_in run.ticks >>= λ ticks. system_verdict run.system ticks (shown_by run.hardware) files

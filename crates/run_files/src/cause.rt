@@ -19,11 +19,11 @@ pub enum Cause {
     Document,
     /// A field of the system file is wrong, missing or unknown.
     Field,
-    /// The image is no ELF file that is taken, and this is the number of the first rule that it breaks.
+    /// The image or a module is no ELF file that is taken, and this is the number of the first rule that it breaks.
     Image(u8),
-    /// A part of the image isn't wholly on its side.
+    /// A part of the image or of a module isn't wholly on its side.
     Outside,
-    /// Two parts of the image share a byte.
+    /// Two parts share a byte, or a part of a module has one of a reserved range.
     Overlap,
     /// The line of the script with this number, counted from 1, is the first bad one.
     Line(u32),

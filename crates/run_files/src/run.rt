@@ -2,6 +2,7 @@
 
 use crate::sides::Sides;
 use device_script::Script;
+use item_list::Items;
 
 /// Which lines of a run are written.
 #[derive(Clone, Copy, Debug, PartialEq, Eq)]
@@ -10,13 +11,17 @@ pub enum Shown {
     Guest,
     /// The lines of both halves, and all end lines.
     Both,
+    /// The lines of both halves with the hardware's between them, and all end lines.
+    WithHardware,
 }
 
 /// All that a run starts from.
 #[derive(Drop)]
 pub struct AcceptedRun {
-    /// Both sides of memory and the guest's entry.
+    /// Both sides of memory, with the image and the modules, and the guest's entry.
     pub sides: Sides,
+    /// The entries of the modules' inits, in the order of the system file.
+    pub inits: Items<u32>,
     /// The events from outside.
     pub script: Script,
     /// How many ticks are run.

@@ -7,7 +7,7 @@ use Rattle.run_files.specs.declared.cause.Cause.TheVariants as cause
 use Rattle.run_files.specs.declared.cause.Refusal.{Refusal}
 use Rattle.run_files.specs.declared.cause.Refusal.TheVariants.{Because, NoMemory}
 use Rattle.run_files.specs.declared.run.AcceptedRun.{AcceptedRun}
-use Rattle.run_files.specs.Verdict.{About}
+use Rattle.run_files.specs.Verdict.{About, shown_by}
 use Rattle.run_request.specs.Open.{NamesFile}
 
 -- the words and the ticks are accepted
@@ -37,3 +37,8 @@ FollowsWords (Err NoMemory) said = Unit {0}
 abbrev pub NamesRunFile : Option AskedRun → Option Files → List ℕ → Type 0
 NamesRunFile None held name = ⊥
 NamesRunFile (Some run) held name = IfSome held (λ files. NamesFile run.system files name)
+
+-- the run shows the lines that the words ask for
+abbrev pub ShowsAsked : Option AskedRun → AcceptedRun → Type 0
+ShowsAsked None run = ⊥
+ShowsAsked (Some words) run = run.shown ≡ shown_by words.hardware

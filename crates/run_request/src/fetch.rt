@@ -1,7 +1,7 @@
 // The files of a run, fetched.
-ghost use Rattle.std.specs.Prelude.{◌≡◌, ◌≤◌, length, IfOk, IfSome};
+ghost use Rattle.std.specs.Prelude.{◌≡◌, ◌≤◌, ◌<◌, ◌+◌, ◌^◌, length, IfOk, IfSome};
 ghost use Rattle.device_script.specs.Event.{IsScript};
-ghost use Rattle.run_files.specs.Files.{IsAccepted, system_in, sides_in, script_in, file_limit};
+ghost use Rattle.run_files.specs.Files.{IsAccepted, system_in, sides_in, module_in, script_in, file_limit};
 ghost use Rattle.run_files.specs.Refusal.{Tells, FaultsBy, BlamesFile, IfUnread};
 ghost use Rattle.run_files.specs.Verdict.{made_of_file};
 ghost use Rattle.run_request.specs.Fetch.{file_bytes};
@@ -10,7 +10,8 @@ use device_script::Script;
 use item_list::Items;
 use outside_io::{Fetched, Store, StoreFault};
 use run_files::{
-    Cause, FILE_LIMIT, Refusal, Sides, accept_image, accept_script, accept_system, refused,
+    Cause, FILE_LIMIT, Loaded, Refusal, Sides, accept_image, accept_module, accept_script,
+    accept_system, refused,
 };
 use std::alloc::Global;
 use system_file::System;
@@ -70,6 +71,31 @@ pub fn open_image<S: Store>(alloc: Global, store: &mut S, system: &System) -> Re
     let name = system.image.as_str();
     match fetch_file(alloc, store, name) {
         Ok(content) => accept_image(alloc, name.as_bytes(), system, content.as_slice()),
+        Err(refusal) => Err(refusal),
+    }
+}
+
+/// The sides with one more module, of a file.
+pub fn open_module<S: Store>(
+    alloc: Global,
+    store: &mut S,
+    name: &str,
+    loaded: Loaded,
+) -> Result<Loaded, Refusal>
+    requires some { 1 ≤ length name.now }
+    requires short { length name.now ≤ 255 }
+    requires small { length loaded.sides.memory.guest + length loaded.sides.memory.real_time < 2 ^ 32 }
+    ensures told { IfSome (S.held store.old) (λ files. Tells result (made_of_file (module_in loaded) files name.now)) }
+    ensures stays { S.held store.new ≡ S.held store.old }
+    ensures guest_size { IfOk result (λ next. length next.sides.memory.guest ≡ length loaded.sides.memory.guest) }
+    ensures real_time_size { IfOk result (λ next. length next.sides.memory.real_time ≡ length loaded.sides.memory.real_time) }
+    ensures count { IfOk result (λ next. length next.inits ≡ length loaded.inits + 1) }
+    ensures unread { IfUnread result (λ unread. unread ≡ name.now) }
+    ensures blame { BlamesFile result }
+    ensures cause { FaultsBy (S.faults store.old) (S.faults store.new) (S.failed_last store.new) result }
+{
+    match fetch_file(alloc, store, name) {
+        Ok(content) => accept_module(alloc, name.as_bytes(), loaded, content.as_slice()),
         Err(refusal) => Err(refusal),
     }
 }

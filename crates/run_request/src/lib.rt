@@ -1,7 +1,8 @@
-//! The request of `run`: its words, and its system file, its image and its script, fetched from a store in this order.
+//! The request of `run`: its words, and its system file, its image, its modules and its script, fetched from a store in this order.
 #![tactic(auto)]
 
 mod fetch;
+mod modules;
 mod open;
 mod request;
 

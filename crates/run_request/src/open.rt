@@ -3,37 +3,41 @@ ghost use Rattle.std.specs.Prelude.{◌≡◌, ◌≤◌, [], length, IfOk, IfSo
 ghost use Rattle.outside_io.specs.Names.{IsName};
 ghost use Rattle.run_files.specs.Files.{IsAccepted};
 ghost use Rattle.run_files.specs.Refusal.{Tells, FaultsBy, BlamesFile, IfUnread};
-ghost use Rattle.run_files.specs.Verdict.{system_verdict, image_verdict, script_verdict};
-ghost use Rattle.run_request.specs.Open.{IsReady, NamesFile, NamesImage};
+ghost use Rattle.run_files.specs.Verdict.{system_verdict, image_verdict, modules_verdict, script_verdict};
+ghost use Rattle.run_request.specs.Open.{IsReady, NamesFile, NamesImage, NamesModules};
 
 use crate::fetch::{open_image, open_script, open_system};
+use crate::modules::open_modules;
 use device_script::Script;
 use item_list::Items;
 use outside_io::Store;
-use run_files::{AcceptedRun, Refusal, Shown, Sides};
+use run_files::{AcceptedRun, Loaded, Refusal, Shown, Sides};
 use std::alloc::Global;
 use system_file::{Name, System};
 
-/// Fetches the system file of this name, its image and its script, in this order, up to the first that is refused.
+/// Fetches the system file of this name, its image, its modules and its script, in this order, up to the first that is refused.
+/// The run is of these ticks, and shows these lines.
 #[tactic(auto, unfolding(run_files::specs::Verdict::system_verdict))]
 pub fn open_run<S: Store>(
     alloc: Global,
     store: &mut S,
     name: &str,
     ticks: u32,
+    shown: Shown,
 ) -> Result<AcceptedRun, Refusal>
     requires some { 1 ≤ length name.now }
     requires short { length name.now ≤ 255 }
-    ensures told { IfSome (S.held store.old) (λ files. Tells result (system_verdict name.now ticks files)) }
+    ensures told { IfSome (S.held store.old) (λ files. Tells result (system_verdict name.now ticks shown files)) }
     ensures unread { IfUnread result (λ unread. IfSome (S.held store.old) (λ files. NamesFile name.now files unread)) }
     ensures ready { IfOk result IsReady }
     ensures ticks { IfOk result (λ run. run.ticks ≡ ticks) }
+    ensures shown { IfOk result (λ run. run.shown ≡ shown) }
     ensures stays { S.held store.new ≡ S.held store.old }
     ensures blame { BlamesFile result }
     ensures cause { FaultsBy (S.faults store.old) (S.faults store.new) (S.failed_last store.new) result }
 {
     match open_system(alloc, store, name) {
-        Ok(system) => open_behind_system(alloc, store, &system, ticks),
+        Ok(system) => open_behind_system(alloc, store, &system, ticks, shown),
         Err(refusal) => Err(refusal),
     }
 }
@@ -44,18 +48,20 @@ fn open_behind_system<S: Store>(
     store: &mut S,
     system: &System,
     ticks: u32,
+    shown: Shown,
 ) -> Result<AcceptedRun, Refusal>
     requires { IsAccepted system.now }
-    ensures told { IfSome (S.held store.old) (λ files. Tells result (image_verdict system.now ticks files)) }
+    ensures told { IfSome (S.held store.old) (λ files. Tells result (image_verdict system.now ticks shown files)) }
     ensures unread { IfUnread result (λ unread. IfSome (S.held store.old) (λ files. NamesImage system.now files unread)) }
     ensures ready { IfOk result IsReady }
     ensures ticks { IfOk result (λ run. run.ticks ≡ ticks) }
+    ensures shown { IfOk result (λ run. run.shown ≡ shown) }
     ensures stays { S.held store.new ≡ S.held store.old }
     ensures blame { BlamesFile result }
     ensures cause { FaultsBy (S.faults store.old) (S.faults store.new) (S.failed_last store.new) result }
 {
     match open_image(alloc, store, system) {
-        Ok(sides) => open_behind_image(alloc, store, &system.script, sides, ticks),
+        Ok(sides) => open_behind_image(alloc, store, system, sides, ticks, shown),
         Err(refusal) => Err(refusal),
     }
 }
@@ -64,17 +70,47 @@ fn open_behind_system<S: Store>(
 fn open_behind_image<S: Store>(
     alloc: Global,
     store: &mut S,
-    script: &Option<Name>,
+    system: &System,
     sides: Sides,
     ticks: u32,
+    shown: Shown,
 ) -> Result<AcceptedRun, Refusal>
-    requires name { IfSome script.now IsName }
+    requires system { IsAccepted system.now }
     requires guest { (65536 ≤ length sides.memory.guest) × (length sides.memory.guest ≤ 16777216) }
     requires real_time { (65536 ≤ length sides.memory.real_time) × (length sides.memory.real_time ≤ 4194304) }
-    ensures told { IfSome (S.held store.old) (λ files. Tells result (script_verdict script.now sides ticks files)) }
+    ensures told { IfSome (S.held store.old) (λ files. Tells result (modules_verdict system.now sides ticks shown files)) }
+    ensures unread { IfUnread result (λ unread. IfSome (S.held store.old) (λ files. NamesModules system.now sides files unread)) }
+    ensures ready { IfOk result IsReady }
+    ensures ticks { IfOk result (λ run. run.ticks ≡ ticks) }
+    ensures shown { IfOk result (λ run. run.shown ≡ shown) }
+    ensures stays { S.held store.new ≡ S.held store.old }
+    ensures blame { BlamesFile result }
+    ensures cause { FaultsBy (S.faults store.old) (S.faults store.new) (S.failed_last store.new) result }
+{
+    match open_modules(alloc, store, system.modules.as_slice(), sides) {
+        Ok(loaded) => open_behind_modules(alloc, store, &system.script, loaded, ticks, shown),
+        Err(refusal) => Err(refusal),
+    }
+}
+
+// What stands behind accepted modules.
+fn open_behind_modules<S: Store>(
+    alloc: Global,
+    store: &mut S,
+    script: &Option<Name>,
+    loaded: Loaded,
+    ticks: u32,
+    shown: Shown,
+) -> Result<AcceptedRun, Refusal>
+    requires name { IfSome script.now IsName }
+    requires guest { (65536 ≤ length loaded.sides.memory.guest) × (length loaded.sides.memory.guest ≤ 16777216) }
+    requires real_time { (65536 ≤ length loaded.sides.memory.real_time) × (length loaded.sides.memory.real_time ≤ 4194304) }
+    requires few { length loaded.inits ≤ 16 }
+    ensures told { IfSome (S.held store.old) (λ files. Tells result (script_verdict script.now loaded ticks shown files)) }
     ensures unread { IfUnread result (λ unread. script.now ≡ Some unread) }
     ensures ready { IfOk result IsReady }
     ensures ticks { IfOk result (λ run. run.ticks ≡ ticks) }
+    ensures shown { IfOk result (λ run. run.shown ≡ shown) }
     ensures stays { S.held store.new ≡ S.held store.old }
     ensures blame { BlamesFile result }
     ensures cause { FaultsBy (S.faults store.old) (S.faults store.new) (S.failed_last store.new) result }
@@ -83,19 +119,21 @@ fn open_behind_image<S: Store>(
         Some(name) => name.as_str(),
         None => {
             return Ok(AcceptedRun {
-                sides,
+                sides: loaded.sides,
+                inits: loaded.inits,
                 script: no_script(alloc),
                 ticks,
-                shown: Shown::Both,
+                shown,
             });
         }
     };
     match open_script(alloc, store, name) {
         Ok(script) => Ok(AcceptedRun {
-            sides,
+            sides: loaded.sides,
+            inits: loaded.inits,
             script,
             ticks,
-            shown: Shown::Both,
+            shown,
         }),
         Err(refusal) => Err(refusal),
     }

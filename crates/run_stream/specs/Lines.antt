@@ -1,51 +1,43 @@
--- The lines of a run, and their text.
-use Rattle.std.specs.Prelude.{ℕ, suc, List, [], ◌∷◌, ◌++◌, map, take, Bool, true, false, flat_map}
+-- The lines of a run, and their text. They are those of both machines side by side, with the hardware between them.
+use Rattle.std.specs.Prelude.{ℕ, List, [], ◌∷◌, ◌++◌, map, take, Bool, true, false, flat_map}
 use Rattle.std.specs.List.{list_any}
 use Rattle.line_kinds.specs.declared.kinds.GLine.{GLine}
 use Rattle.line_kinds.specs.declared.kinds.GLine.TheVariants.{Breach}
+use Rattle.line_kinds.specs.declared.kinds.HLine.{HLine}
 use Rattle.line_kinds.specs.declared.kinds.Line.{Line}
 use Rattle.line_kinds.specs.declared.kinds.Line.TheVariants.{R, G, H}
 use Rattle.line_kinds.specs.declared.kinds.RLine.{RLine}
-use Rattle.line_kinds.specs.declared.kinds.RLine.TheVariants.{On}
-use Rattle.line_kinds.specs.declared.kinds.Who.TheVariants as who
+use Rattle.line_kinds.specs.declared.kinds.RLine.TheVariants.{Fault}
 use Rattle.trace_lines.specs.Text.{line_text}
-use Rattle.run_lines.specs.Ticks.{at_tick, stamped, lines_to}
+use Rattle.run_lines.specs.Ticks.{stamped, lines_to}
 use Rattle.run_output.specs.Merge.{tick_lines}
-use Rattle.bare_machine.specs.State.{Bare}
-use Rattle.bare_machine.specs.Run.{bare_after, bare_lines, bare_end}
-use Rattle.rt_core.specs.End.{quiet_end}
+use Rattle.bare_machine.specs.Run.{bare_end}
+use Rattle.priority_schedule.specs.Run.{real_end}
+use Rattle.schedule_laws.specs.Both.{both_after, both_g, both_h, both_r}
 use Rattle.run_files.specs.declared.run.AcceptedRun.{AcceptedRun}
 use Rattle.run_files.specs.declared.run.Shown.{Shown}
-use Rattle.run_files.specs.declared.run.Shown.TheVariants.{Guest, Both}
-use Rattle.run_stream.specs.Start.{guest_start}
+use Rattle.run_files.specs.declared.run.Shown.TheVariants.{Guest, Both, WithHardware}
+use Rattle.run_stream.specs.Start.{run_start}
 
--- the real-time lines of a run with no real-time activity: the guest is on at tick 1
-abbrev pub guest_on : List (ℕ × RLine)
-guest_on = (1, On who.Guest) ∷ []
-
--- the lines of a tick that are shown: the guest's alone, or those of both halves
-abbrev pub tick_shown : Shown → List RLine → List GLine → List Line
-tick_shown Guest r g = map G g
-tick_shown Both r g = tick_lines false r [] g
+-- the lines of a tick that are shown: the guest's alone, those of both halves, or these with the hardware's between them
+abbrev pub tick_shown : Shown → List RLine → List HLine → List GLine → List Line
+tick_shown Guest r h g = map G g
+tick_shown Both r h g = tick_lines false r h g
+tick_shown WithHardware r h g = tick_lines true r h g
 
 -- the end lines that are shown: the guest's first one alone, or all of both halves
 abbrev pub ends_among : Shown → List RLine → List GLine → List Line
 ends_among Guest r g = map G (take 1 g)
 ends_among Both r g = map R r ++ map G g
+ends_among WithHardware r g = map R r ++ map G g
 
-abbrev pub ends_shown : Shown → List ℕ → Bare → List Line
-ends_shown which real_time b = ends_among which (quiet_end real_time) (bare_end b)
-
--- the bare machine of a run after n ticks, and its lines of the tick after them
-abbrev pub bare_at : AcceptedRun → ℕ → Bare
-bare_at run n = bare_after (guest_start run) run.script.events guest_on n
-
-abbrev pub guest_lines_at : AcceptedRun → ℕ → List GLine
-guest_lines_at run n = bare_lines (guest_start run) run.script.events guest_on n
+-- those after n ticks
+abbrev pub ends_shown : Shown → AcceptedRun → ℕ → List Line
+ends_shown which run n = ends_among which (real_end (both_after (run_start run) n).real) (bare_end (both_after (run_start run) n).bare)
 
 -- the lines of the tick after n ticks, in their order
 unfoldable pub shown_at : Shown → AcceptedRun → ℕ → List Line
-shown_at which run n = tick_shown which (at_tick (suc n) guest_on) (guest_lines_at run n)
+shown_at which run n = tick_shown which (both_r (run_start run) n) (both_h (run_start run) n) (both_g (run_start run) n)
 
 -- the lines of ticks 1 to n
 abbrev pub shown_to : Shown → AcceptedRun → ℕ → List (ℕ × Line)
@@ -53,11 +45,13 @@ shown_to which run n = lines_to (shown_at which run) n
 
 -- the lines of a run with its end lines
 abbrev pub lines_shown : Shown → AcceptedRun → List (ℕ × Line)
-lines_shown which run = shown_to which run run.ticks ++ stamped run.ticks (ends_shown which run.sides.memory.real_time (bare_at run run.ticks))
+lines_shown which run = shown_to which run run.ticks ++ stamped run.ticks (ends_shown which run run.ticks)
 
 -- those that it is to show
 abbrev pub run_shown : AcceptedRun → List (ℕ × Line)
 run_shown run = lines_shown run.shown run
+
+-- Breaches of the guest and faults of real-time activities among lines
 
 abbrev pub is_breach : GLine → Bool
 is_breach (Breach kind) = true
@@ -71,6 +65,26 @@ shows_breach (H line) = false
 abbrev pub has_breach : List (ℕ × Line) → Bool
 has_breach lines = list_any (λ line. shows_breach line.1) lines
 
+abbrev pub is_fault : RLine → Bool
+is_fault (Fault who kind) = true
+is_fault _ = false
+
+abbrev pub shows_fault : Line → Bool
+shows_fault (R line) = is_fault line
+shows_fault (G line) = false
+shows_fault (H line) = false
+
+abbrev pub has_fault : List (ℕ × Line) → Bool
+has_fault lines = list_any (λ line. shows_fault line.1) lines
+
+-- a fault among the real-time lines of a tick, where these are shown
+abbrev pub fault_shown : Shown → List RLine → Bool
+fault_shown Guest r = false
+fault_shown Both r = list_any is_fault r
+fault_shown WithHardware r = list_any is_fault r
+
+-- Text
+
 -- a line with its end
 abbrev pub piece_of : ℕ × Line → List ℕ
 piece_of line = line_text line.0 line.1 ++ 10 ∷ []
@@ -83,9 +97,12 @@ tick_text t lines = flat_map (λ line. piece_of (t, line)) lines
 abbrev pub text_of : List (ℕ × Line) → List ℕ
 text_of lines = flat_map piece_of lines
 
--- the text of G lines, and of R lines, of one tick
+-- the text of G, of R and of H lines of one tick
 abbrev pub guest_text : ℕ → List GLine → List ℕ
 guest_text t lines = flat_map (λ line. piece_of (t, G line)) lines
 
 abbrev pub real_time_text : ℕ → List RLine → List ℕ
 real_time_text t lines = flat_map (λ line. piece_of (t, R line)) lines
+
+abbrev pub hardware_text : ℕ → List HLine → List ℕ
+hardware_text t lines = flat_map (λ line. piece_of (t, H line)) lines

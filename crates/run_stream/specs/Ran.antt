@@ -1,25 +1,40 @@
--- A machine that ran so many ticks of a run.
-use Rattle.std.specs.Prelude.{◌≡◌, ℕ, zero, suc}
-use Rattle.port_board.specs.Board.{new_board}
-use Rattle.port_board.specs.declared.board.Board.{Board}
+-- A machine that ran so many ticks of a run, and what is kept of it.
+use Rattle.std.specs.Prelude.{◌≡◌, ℕ, List}
+use Rattle.line_kinds.specs.declared.kinds.GLine.{GLine}
+use Rattle.line_kinds.specs.declared.kinds.RLine.{RLine}
+use Rattle.run_lines.specs.Calls.{calls_of}
+use Rattle.run_lines.specs.Says.{holder, held}
+use Rattle.bare_machine.specs.Run.{bare_after}
+use Rattle.priority_schedule.specs.Run.{real_after}
+use Rattle.hardware_lines.specs.Hardware.{hardware_after}
 use Rattle.rt_core.specs.Coming.{above}
-use Rattle.rt_core.specs.Machine.{MachineParts, bare_of, board_after}
+use Rattle.machine_state.specs.Parts.{MachineParts}
+use Rattle.machine_state.specs.Standing.{IsStanding}
+use Rattle.machine_state.specs.States.{bare_of, hardware_at, real_of}
+use Rattle.machine_state.specs.StandsFor.{StandsFor}
+use Rattle.schedule_laws.specs.Both.{all_g, all_r, both_after, both_hardware}
 use Rattle.run_files.specs.declared.run.AcceptedRun.{AcceptedRun}
-use Rattle.run_lines.specs.Says.{holder}
-use Rattle.run_lines.specs.Ticks.{at_tick}
-use Rattle.run_stream.specs.Lines.{bare_at, guest_on}
+use Rattle.run_stream.specs.Start.{run_start}
 
--- the board of a run after n ticks: with COM1 as the bare machine has it, both serial ports, the timer and the controllers
-unfoldable pub board_at : AcceptedRun → ℕ → Board
-board_at run zero = new_board
-board_at run (suc n) = board_after (at_tick (suc n) run.script.events) (bare_at run (suc n)).com1 (board_at run n)
-
--- a machine that ran n ticks stands for the bare machine of the run after them, and its board is the run's; the script's events of later
--- ticks are to come, and the real-time side is as it was
+-- its states are those of both machines and of the hardware after so many ticks, and the script's events of later ticks are to come
 pub record HasRunTo (run : AcceptedRun) (n : ℕ) (machine : MachineParts) : Type 0 where
-  pub bare : bare_of machine ≡ bare_at run n
-  pub board : machine.board ≡ board_at run n
-  pub on : machine.on ≡ holder n guest_on
+  pub bare : bare_of machine ≡ (both_after (run_start run) n).bare
+  pub real : real_of machine ≡ (both_after (run_start run) n).real
+  pub hardware : hardware_at machine ≡ both_hardware (run_start run) n
+  pub standing : IsStanding machine
   pub coming : machine.coming ≡ above n run.script.events
-  pub real_time : machine.memory.real_time ≡ run.sides.memory.real_time
   pub ticks : machine.ticks ≡ n
+
+-- the lines of both halves of a run, all of them: the one solution
+abbrev pub guest_shown : AcceptedRun → List (ℕ × GLine)
+guest_shown run = all_g (run_start run) run.ticks
+
+abbrev pub real_shown : AcceptedRun → List (ℕ × RLine)
+real_shown run = all_r (run_start run) run.ticks
+
+-- a machine that ran all ticks of a run stands by all seven points for the bare machine beside the run's real-time lines, for the real-time
+-- side beside its guest's calls, and for the hardware between them
+pub record StandsAfter (run : AcceptedRun) (machine : MachineParts) : Type 0 where
+  pub ticks : machine.ticks ≡ run.ticks
+  pub states : let start = run_start run in let n = run.ticks in let r = real_shown run in let calls = calls_of (guest_shown run) in
+      StandsFor machine (holder n r) (held n r) (bare_after start.guest start.script r n) (real_after start.real start.script calls n) (hardware_after start r calls n)

@@ -1,7 +1,12 @@
--- What the guest of a run starts from.
-use Rattle.bare_machine.specs.State.{GuestStart}
-use Rattle.rt_core.specs.Machine.{start_of}
+-- What both machines of a run start from.
+use Rattle.hardware_lines.specs.RunStart.{RunStart}
+use Rattle.rt_core.specs.Start.{start_of, real_start_of}
 use Rattle.run_files.specs.declared.run.AcceptedRun.{AcceptedRun}
 
-abbrev pub guest_start : AcceptedRun → GuestStart
-guest_start run = start_of run.sides.memory run.sides.entry
+-- the guest, the real-time side with the inits of its modules, in version 1 of the rule that picks, and the script
+abbrev pub run_start : AcceptedRun → RunStart
+run_start run = record {
+  guest = start_of run.sides.memory run.sides.entry;
+  real = real_start_of run.sides.memory 1 run.inits;
+  script = run.script.events;
+}

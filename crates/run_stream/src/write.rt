@@ -1,14 +1,15 @@
 // Lines into the sink.
-ghost use Rattle.std.specs.Prelude.{◌≡◌, ◌++◌, flat_map};
+ghost use Rattle.std.specs.Prelude.{◌≡◌, ◌++◌, flat_map, true};
 ghost use Rattle.outside_io.specs.Sink.{Puts};
 ghost use Rattle.line_kinds.specs.declared.kinds.Line.{Line};
-ghost use Rattle.run_stream.specs.Lines.{tick_text, piece_of, tick_shown, ends_among, guest_text, real_time_text};
+ghost use Rattle.run_stream.specs.Lines.{tick_text, piece_of, tick_shown, ends_among, guest_text, hardware_text, real_time_text};
+ghost use Rattle.trace_lines.specs.TickLines.{no_tick_lines};
 
 use line_text::LineText;
 use outside_io::{Sink, SinkFault};
 use rt_core::EndLines;
 use run_files::Shown;
-use trace_lines::{GLine, Lines, RLine, write_g, write_r};
+use trace_lines::{GLine, HLine, Lines, RLine, write_g, write_h, write_r};
 
 // A line of one half, which is printed.
 trait Printed {
@@ -46,7 +47,20 @@ impl Printed for RLine {
     }
 }
 
-// Writes lines of one half, each with one put. A fault ends it.
+impl Printed for HLine {
+    ghost use Rattle.line_kinds.specs.declared.kinds.Line.TheVariants.{H};
+
+    ghost line = { λ l. H l };
+
+    fn piece(&self, tick: u32) -> LineText {
+        let mut text = LineText::new();
+        let _ = write_h(tick, self, &mut text);
+        let _ = text.push_text(b"\n");
+        text
+    }
+}
+
+// Writes lines of one letter, each with one put. A fault ends it.
 fn write_half<K: Sink, L: Printed>(sink: &mut K, tick: u32, lines: &[L]) -> Result<(), SinkFault>
     ensures { Puts (K.written sink.old) (K.written sink.new) (K.faults sink.old) (K.faults sink.new)
         (flat_map (λ l. piece_of (tick, L.line l)) lines.now) result }
@@ -75,20 +89,44 @@ fn write_both<K: Sink>(
     }
 }
 
-// Writes the lines that are shown.
-fn write_lines<K: Sink>(
+// Writes H lines and then G lines.
+fn write_behind<K: Sink>(
     sink: &mut K,
     tick: u32,
-    shown: Shown,
-    lines: &Lines,
+    hardware: &[HLine],
+    guest: &[GLine],
 ) -> Result<(), SinkFault>
     ensures { Puts (K.written sink.old) (K.written sink.new) (K.faults sink.old) (K.faults sink.new)
-        (tick_text tick (tick_shown shown lines.now.r lines.now.g)) result }
+        (hardware_text tick hardware.now ++ guest_text tick guest.now) result }
 {
-    match shown {
-        Shown::Guest => write_half(sink, tick, lines.g()),
-        Shown::Both => write_both(sink, tick, lines.r(), lines.g()),
+    match write_half(sink, tick, hardware) {
+        Ok(()) => write_half(sink, tick, guest),
+        Err(fault) => Err(fault),
     }
+}
+
+// Writes R lines, then H lines and G lines.
+fn write_all<K: Sink>(
+    sink: &mut K,
+    tick: u32,
+    real_time: &[RLine],
+    hardware: &[HLine],
+    guest: &[GLine],
+) -> Result<(), SinkFault>
+    ensures { Puts (K.written sink.old) (K.written sink.new) (K.faults sink.old) (K.faults sink.new)
+        (real_time_text tick real_time.now ++ (hardware_text tick hardware.now ++ guest_text tick guest.now)) result }
+{
+    match write_half(sink, tick, real_time) {
+        Ok(()) => write_behind(sink, tick, hardware, guest),
+        Err(fault) => Err(fault),
+    }
+}
+
+/// Whether a tick has no line, as most have none.
+pub fn has_none(lines: &Lines) -> bool
+    ensures { result ≡ true → lines.now ≡ no_tick_lines }
+{
+    lines.r().is_empty() && lines.g().is_empty() && lines.h().is_empty()
 }
 
 /// Writes the lines of a tick, each with one put: those that are shown. A fault ends it.
@@ -99,13 +137,13 @@ pub fn write_tick<K: Sink>(
     lines: &Lines,
 ) -> Result<(), SinkFault>
     ensures { Puts (K.written sink.old) (K.written sink.new) (K.faults sink.old) (K.faults sink.new)
-        (tick_text tick (tick_shown shown lines.now.r lines.now.g)) result }
+        (tick_text tick (tick_shown shown lines.now.r lines.now.h lines.now.g)) result }
 {
-    // most ticks have no line
-    if lines.r().is_empty() && lines.g().is_empty() {
-        return Ok(());
+    match shown {
+        Shown::Guest => write_half(sink, tick, lines.g()),
+        Shown::Both => write_both(sink, tick, lines.r(), lines.g()),
+        Shown::WithHardware => write_all(sink, tick, lines.r(), lines.h(), lines.g()),
     }
-    write_lines(sink, tick, shown, lines)
 }
 
 /// Writes the end lines, each with one put: those that are shown. A fault ends it.
@@ -121,5 +159,6 @@ pub fn write_ends<K: Sink>(
     match shown {
         Shown::Guest => write_half(sink, tick, &ends.g[..1]),
         Shown::Both => write_both(sink, tick, &ends.r, &ends.g),
+        Shown::WithHardware => write_both(sink, tick, &ends.r, &ends.g),
     }
 }

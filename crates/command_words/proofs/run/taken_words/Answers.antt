@@ -7,5 +7,6 @@ pub returns : goal.returns
 returns c =
     let got = c.in_ok-matches.ensures in (
       got.0,
-      asked (found_of c.in_ok-matches.matches) _ _ _ got.1 (sym (rw c.in-Some.is at c.get_str.ensures)) (sym (rw c.in-Some-get_str.is at c.get_str-2.ensures)),
+      asked (found_of c.in_ok-matches.matches) _ _ _ _ got.1 (sym (rw c.in-Some.is at c.get_str.ensures)) (sym (rw c.in-Some-get_str.is at c.get_str-2.ensures))
+          c.has_flag.ensures,
     )

@@ -1,0 +1,17 @@
+pub mod Lent
+pub mod Performing
+pub mod Registered
+pub mod Rising
+pub mod Asked
+pub mod Agreeing
+pub mod UnitSteps
+pub mod NextLeft
+pub mod MovedLeft
+pub mod GateLeft
+pub mod EndLeft
+pub mod Settled
+pub mod LiveCaller
+pub mod OtherLeft
+pub mod Few
+pub mod Planned
+pub mod Whole

@@ -1,0 +1,6 @@
+pub mod Dividing
+pub mod Ports
+pub mod RaisedLines
+pub mod Asked
+pub mod Marked
+pub mod Machines

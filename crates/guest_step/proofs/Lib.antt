@@ -1,0 +1,5 @@
+pub mod Asked
+pub mod Boards
+pub mod Outcomes
+pub mod Steps
+pub mod Timers

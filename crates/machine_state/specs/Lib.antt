@@ -1,0 +1,9 @@
+pub mod Changed
+pub mod Inits
+pub mod Laws
+pub mod Parts
+pub mod Plans
+pub mod Running
+pub mod Standing
+pub mod StandsFor
+pub mod States

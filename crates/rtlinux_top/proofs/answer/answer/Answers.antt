@@ -1,0 +1,38 @@
+use Rattle.std.proofs.Common.{rules, ap, subst, ◌∙◌}
+use Rattle.std.specs.Prelude.{Err}
+use Rattle.run_files.specs.declared.cause.Refusal.{Refusal}
+use Rattle.run_files.specs.declared.run.AcceptedRun.{AcceptedRun}
+use Rattle.run_files.specs.Refusal.{FaultsBy, IfUnread}
+use Rattle.run_request.specs.Request.{FollowsWords}
+use Rattle.rtlinux_top.specs.Answers.{NamesAskedFile}
+use Rattle.rtlinux_top.specs.Verdict.{asked_ticks, status_by}
+use Rattle.rtlinux_top.specs.Words.{command_of}
+use Rattle.rtlinux_top.proofs.Refused.{read_is, ticks_are, usage_is}
+use Rattle.rtlinux_top.proofs.answer.answer.Goals as goal
+
+pub returns-in-Ok-put-clause-course : goal.returns-in-Ok-put-clause-course
+returns-in-Ok-put-clause-course g c =
+    let asked = command_of c.args.words.now.items in
+    let held = g.S.Store.held c.args.store.now in
+    let before = g.S.Store.faults c.args.store.now in
+    let now = g.S.Store.faults c.read_request.new.store in
+    let last = g.S.Store.failed_last c.read_request.new.store in
+    let why = c.in-Err-Because in
+    let is = c.status_by.ensures ∙ ap status_by why.cause-is in
+    let same = c.as_slice.ensures.value in
+    let words = subst (λ (r : Refusal). FollowsWords (Err r) (asked_ticks asked)) why.field-0-is (rw same at why.ensures.words) in
+    let unread = subst (λ (r : Refusal). IfUnread {A = AcceptedRun} (Err r) (NamesAskedFile asked held)) why.field-0-is (rw same at why.ensures.unread) in
+    let rose = subst (λ (r : Refusal). FaultsBy {A = AcceptedRun} before now last (Err r)) why.field-0-is why.ensures.cause in
+    record {
+      told = search rules;
+      early = search rules;
+      usage = usage_is why.cause _ asked c.status_by.result is words;
+      ticks = ticks_are why.cause _ asked c.status_by.result is words;
+      read = read_is why.cause _ last asked held before now c.status_by.result is words rose.0 unread;
+      read_text = search rules;
+      write = search rules;
+      sink_fault = search rules;
+      store_fault = search rules;
+      memory = search rules;
+      dropped = search rules;
+    }
