@@ -25,8 +25,8 @@ fn lines_of_refusals(rt: HostRuntime) {
 const SYSTEM: &str =
     "version = 1\nimage = 'k.bin'\nguest_memory = 65536\nreal_time_memory = 69632\n";
 
-// The cause of a refusal that is about this name.
-fn cause_of(refusal: Option<Refusal>, name: &[u8]) -> Option<Cause> {
+/// The cause of a refusal that is about this name.
+pub fn cause_of(refusal: Option<Refusal>, name: &[u8]) -> Option<Cause> {
     match refusal {
         Some(Refusal::Because(cause, subject)) if subject.as_slice() == name => Some(cause),
         _ => None,
@@ -42,10 +42,10 @@ fn system_refusal(alloc: Global, line: &str) -> Result<Option<Cause>, Fail> {
 }
 
 #[test]
-fn systems_without_modules(rt: HostRuntime) -> Result<(), Fail> {
+fn systems_by_their_fields(rt: HostRuntime) -> Result<(), Fail> {
     let alloc = rt.alloc();
-    assert_eq!(rt; system_refusal(alloc, "modules = []")?, None);
-    assert_eq!(rt; system_refusal(alloc, "modules = ['m.elf']")?, Some(Field));
+    assert_eq!(rt; system_refusal(alloc, "modules = ['m.elf']")?, None);
+    assert_eq!(rt; system_refusal(alloc, "modules = 'm.elf'")?, Some(Field));
     assert_eq!(rt; system_refusal(alloc, "version =")?, Some(Document));
     Ok(())
 }

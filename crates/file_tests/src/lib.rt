@@ -10,6 +10,8 @@ mod images;
 #[cfg(test)]
 mod memory;
 #[cfg(test)]
+mod modules;
+#[cfg(test)]
 mod parts;
 #[cfg(test)]
 mod placing;

@@ -38,6 +38,15 @@ fn set_field(file: &mut [u8], at: usize, value: u32) {
     }
 }
 
+/// The first of these files with this entry, address and size in memory.
+pub fn file_at(entry: u32, place: u32, size: u32) -> [u8; 86] {
+    let mut file = SMALL;
+    set_field(&mut file, 24, entry);
+    set_field(&mut file, 52 + 8, place);
+    set_field(&mut file, 52 + 20, size);
+    file
+}
+
 pub fn image_in(alloc: Global, file: &[u8]) -> Option<Image>
     ensures { IfSome result (λ image. All FitsSize image.segments) }
 {

@@ -3,37 +3,70 @@ use command_words::{RunWords, WordsRefusal, is_name, is_number, read_run_words, 
 use std::alloc::Global;
 use std::test::Fail;
 
-// What these words say, where they are taken for the system s.toml and 13 ticks, or why they aren't.
-fn reading(alloc: Global, words: &[&str]) -> Result<Result<bool, WordsRefusal>, Fail> {
+/// The flag in each place among the words.
+static FLAGGED: &str = "\
+--hardware s.toml --ticks 13
+s.toml --hardware --ticks 13
+s.toml --ticks 13 --hardware
+--hardware --ticks=13 s.toml
+--ticks=13 --hardware s.toml
+";
+
+/// Words that are refused.
+static REFUSED: &str = "\
+s.toml --ticks 123456789012345678901
+s.toml --ticks 13 --hardware --hardware
+s.toml --ticks 13 --hardware=true
+s.toml --ticks 13 --hard
+";
+
+// Whether the words of a line are taken for the system s.toml and 13 ticks, with or without the hardware's lines, or why they
+// aren't taken.
+fn reading(alloc: Global, line: &str, hardware: bool) -> Result<Result<bool, WordsRefusal>, Fail> {
     let mut list = Vec::new(alloc);
-    for word in words {
-        list.push(String::from_str(alloc, *word)?)?;
+    for word in line.split(' ') {
+        list.push(String::from_str(alloc, word)?)?;
     }
     let usual = RunWords {
         system: "s.toml",
         ticks: "13",
+        hardware,
     };
     Ok(read_run_words(alloc, &list).map(|said| said == usual))
 }
 
-// Which words are taken is a law of `command_words` (`reads_usual_words`, `refuses_other_words`): here each answer is given
-// once, and what no row of these laws has.
-#[test]
-fn a_system_and_ticks_are_taken_and_other_words_are_usage(rt: HostRuntime) -> Result<(), Fail> {
-    let alloc = rt.alloc();
-    let taken = ["s.toml", "--ticks", "13"];
-    assert_eq!(rt; reading(alloc, &taken)?, Ok(true));
-    let refused: [&[&str]; 2] = [
-        &["s.toml", "--ticks", "123456789012345678901"],
-        &["s.toml", "--ticks", "13", "--hardware"],
-    ];
-    for words in refused {
-        assert_eq!(rt;
-            reading(alloc, words)?,
-            Err(WordsRefusal::Usage),
-            "{words:?}"
-        );
+// Are the words of each line answered so?
+fn all_read(
+    alloc: Global,
+    lines: &str,
+    hardware: bool,
+    wanted: Result<bool, WordsRefusal>,
+) -> Result<bool, Fail> {
+    for line in lines.lines() {
+        if reading(alloc, line, hardware)? != wanted {
+            return Ok(false);
+        }
     }
+    Ok(true)
+}
+
+// Which words are taken is a law of `command_words` (`reads_usual_words`, `refuses_other_words`): here each answer is given
+// once, the flag stands in each place, and what no row of these laws has.
+#[test]
+fn a_system_and_ticks_are_taken(rt: HostRuntime) -> Result<(), Fail> {
+    assert_eq!(rt; reading(rt.alloc(), "s.toml --ticks 13", false)?, Ok(true));
+    Ok(())
+}
+
+#[test]
+fn the_flag_is_taken_in_each_place(rt: HostRuntime) -> Result<(), Fail> {
+    assert!(rt; all_read(rt.alloc(), FLAGGED, true, Ok(true))?);
+    Ok(())
+}
+
+#[test]
+fn other_words_are_usage(rt: HostRuntime) -> Result<(), Fail> {
+    assert!(rt; all_read(rt.alloc(), REFUSED, false, Err(WordsRefusal::Usage))?);
     Ok(())
 }
 

@@ -12,6 +12,8 @@ mod failures;
 #[cfg(test)]
 mod flat_images;
 #[cfg(test)]
+mod hardware;
+#[cfg(test)]
 mod host;
 #[cfg(test)]
 mod images;
