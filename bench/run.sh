@@ -1,5 +1,5 @@
 #!/usr/bin/env bash
-# Times the built program on four images and prints, for each, ticks per second of processor time, the rate as a ratio to that
+# Times the built program on six images and prints, for each, ticks per second of processor time, the rate as a ratio to that
 # of the loop, and peak memory; beside it the same loop in QEMU, one instruction at a time, and in Bochs, where these and an
 # assembler are installed. All take turns in twenty rounds, and the best of each counts, so that a machine that is slow for a while
 # is so for all of them. All ratios are of one run of this script. It builds nothing of the product.
@@ -25,10 +25,20 @@ measure() {
 
 printf '\xcd\xf5' > "$work/halted.bin"                                # the soft hlt
 printf '\xb0\x41\x66\xba\xf8\x03\xee\xeb\xfd' > "$work/sends.bin"    # out to 3F8h and a jump back to it
+timer='\xb8\3\0\0\0\xbb\xe8\3\0\0\xcd\xf6'                           # function 3 of INT F6h, a period of 1,000 ticks
+printf "$timer"'\xeb\xfe' > "$work/masked.bin"                        # a jump to itself, with all lines masked
+# A table of 33 descriptors at 100h, of which that of line 0 is present; no line masked; the timer; sti and a jump to itself. At 2Ah
+# stands the handler, INC EDX and the gate in place of iret.
+printf '\xb8\1\0\0\0\xbb\0\1\0\0\xb9\x21\0\0\0\xcd\xf6\xb8\2\0\0\0\x31\xdb\xcd\xf6'"$timer"'\xcd\xf1\xeb\xfe\x42\xcd\xf2' \
+    > "$work/entered.bin"
+truncate -s 512 "$work/entered.bin"
+printf '\x2a\0\x08\0\0\x8e\0\0' >> "$work/entered.bin"
 measure "a loop of two instructions" "$program" flat examples/loop.bin "$ticks"
 measure "a computation in C, then a jump to itself" "$program" flat examples/compute/compute.bin "$ticks"
 measure "a halted guest: devices and lines alone" "$program" flat "$work/halted.bin" "$ticks"
 measure "writes to COM1, one line in 32 ticks" "$program" flat "$work/sends.bin" "$ticks"
+measure "a timer of 1,000 ticks, its line masked" "$program" flat "$work/masked.bin" "$ticks"
+measure "a timer of 1,000 ticks, with a handler" "$program" flat "$work/entered.bin" "$ticks"
 
 # A ROM that runs the loop so often.
 rom() {

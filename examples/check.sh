@@ -97,6 +97,7 @@ trace shadow_and_halt run examples/shadow_and_halt/system.toml --ticks 2000
 trace serial_echo run examples/serial_echo/system.toml --ticks 2500
 trace transmit flat examples/transmit/transmit.bin 1600
 trace round_robin run examples/round_robin/system.toml --ticks 4000
+trace timer run examples/timer/system.toml --ticks 90000 --hardware
 
 # Words and files that are refused, files that can't be read, and a breach: the status, and all that is written.
 answers() {
@@ -154,7 +155,7 @@ answers 2 "E read missing.elf" run no_image.toml --ticks 5
 answers 2 "E read missing.script" run no_script.toml --ticks 5
 answers 1 "E 10 no_document.toml" run no_document.toml --ticks 5
 answers 1 "E 11 no_page.toml" run no_page.toml --ticks 5
-answers 1 "E 11 module.toml" run module.toml --ticks 5
+answers 2 "E read module.o" run module.toml --ticks 5
 answers 1 "E 20.1 first.bin" run no_elf.toml --ticks 5
 answers 1 "E 22 overlapping.elf" run overlapping.toml --ticks 5
 answers 1 "E 30 line_four 2" run bad_script.toml --ticks 5

@@ -50,6 +50,10 @@ class Trace:
         [(_, words)] = self.of("G", "end")
         return words[0], [int(word, 16) for word in words[1:]]
 
+    def hardware(self):
+        """All lines of the hardware, as they stand."""
+        return [(tick, words[0], int(words[1])) for letter, tick, words in self.lines if letter == "H"]
+
     def only(self, letter, names):
         equal(f"the kinds of {letter} lines", {words[0] for l, _, words in self.lines if l == letter}, set(names))
 
@@ -214,8 +218,63 @@ def round_robin(trace):
     equal("main has returned", (registers[0], registers[6]), (0x1007, SIDE))
 
 
+TIMER = 32 + 0
+# The one-shot reaches so far, and is set to 2k - 1 for a rise k ticks on.
+REACH = 32768
+
+
+def set_for(ticks):
+    return 2 * min(ticks, REACH) - 1
+
+
+def timer(trace):
+    real_time_side(trace)
+    trace.only("G", ["com1", "enter", "halt", "end", "memory"])
+    second, busy, alarm = 200, 600, 40000
+    # 49 instructions and gates stand before the gate that sets the timer; the time is asked for 4 ticks before it.
+    started = 50
+    dues = [started + second * k for k in range(1, 63)]
+    # The stretch with the flag clear is measured from the time that is asked for 30 ticks behind the 25th due. Its loop asks again 4 ticks
+    # later and then each 5 ticks; the flag is set 4 ticks behind the last of them, and the tick behind that is in the shadow.
+    asked = dues[24] + 30
+    last_look = next(tick for tick in range(asked + 4, asked + 2 * busy, 5) if tick - asked >= busy)
+    late = last_look + 6
+    missed = [due for due in dues if asked < due < late]
+    equal("three dues come while the flag is clear", missed, [asked - 30 + second * k for k in (1, 2, 3)])
+    entries = sorted([*(due for due in dues if due not in missed), late])
+    equal("an entry for each due, but one for the three", len(entries), 60)
+    # The last report is of the 60th entry. The gate that makes the timer an alarm stands 170 ticks behind it.
+    alarm_set = entries[59] + 170
+    rung = alarm_set + alarm
+    equal("the entries", trace.entries(), [(tick, TIMER) for tick in [*entries, rung]])
+    # The one-shot is set by the gate and by each due for the next. The alarm is too far: what rises on the way there has no entry. The
+    # gate that turns the timer off sets nothing, so the one-shot that was set before still rises, and then no more.
+    wanted = [(started, "set", set_for(second))]
+    for due in dues:
+        wanted += [(due, "edge", 0), (due, "ack", 0), (due, "set", set_for(second))]
+    way = alarm_set + REACH
+    wanted += [(alarm_set, "set", set_for(alarm)), (way, "edge", 0), (way, "ack", 0), (way, "set", set_for(rung - way)),
+               (rung, "edge", 0), (rung, "ack", 0), (rung, "set", set_for(alarm)), (rung + REACH, "edge", 0), (rung + REACH, "ack", 0)]
+    equal("the lines of the hardware", trace.hardware(), wanted)
+    # The count of the entries lost two seconds. A report follows an entry, and its first write is 112 ticks behind that; behind the alarm
+    # it is 32.
+    reports = [entries[19], entries[39], entries[59]]
+    equal("the seconds by the time", [(tick - started) // second for tick in reports], [20, 42, 62])
+    text, ticks = trace.sent()
+    equal("the text", text, b"0:20 0:20\n0:40 0:42\n1:00 1:02\nalarm\n")
+    equal("the ticks of the bytes", ticks, [tick for report in reports for tick in steps_of(report + 112 + WRITE_TO_LEAVE, 10)]
+          + steps_of(rung + 32 + WRITE_TO_LEAVE, 6))
+    # Main halts first in tick 58. From an entry to the next halt it takes 27 ticks, 28 where the entry comes behind the stretch, 174 or,
+    # with the gate of the timer, 178 behind a report, and 75 at the end. Behind the 25th due the stretch begins.
+    longer = {late: 28, reports[0]: 174, reports[1]: 174, reports[2]: 178, rung: 75}
+    equal("the halts", trace.halts(), [58] + [tick + longer.get(tick, 27) for tick in [*entries, rung] if tick != dues[24]])
+    # EAX has 62 seconds and 61 entries; the flag is set, and EFLAGS else that of the OR. ECX is the stack's end, by main's start.
+    equal("the end", trace.registers(), ("halted", [0x1007, 0x202, 62 << 8 | 61, SIDE, 61, 0, SIDE, 0, 0, 0]))
+
+
 if __name__ == "__main__":
-    checks = {check.__name__: check for check in (interrupts, first_steps, shadow_and_halt, serial_echo, transmit, round_robin)}
+    checks = {check.__name__: check for check in
+              (interrupts, first_steps, shadow_and_halt, serial_echo, transmit, round_robin, timer)}
     if len(sys.argv) != 2 or sys.argv[1] not in checks:
         sys.exit(f"usage: check_trace.py {'|'.join(checks)} < TRACE")
     checks[sys.argv[1]](Trace(sys.stdin.read()))

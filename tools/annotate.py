@@ -1,5 +1,6 @@
 #!/usr/bin/env python3
-"""Puts names, source lines and hints beside the lines of a trace: entries, breaches, shutdowns, faults, gates and the end."""
+"""Puts names, source lines and hints beside the lines of a trace: entries, breaches, shutdowns, faults, gates, the one-shot and the
+end."""
 from __future__ import annotations
 
 import argparse
@@ -26,6 +27,7 @@ examples:
 FAULTS = {"divide": "a division by 0, or a quotient that doesn't fit", "opcode": "bytes that are no instruction, HLT or IRET",
           "int": "an interrupt other than F8h and F9h", "memory": "an access outside its side",
           "port": "a port that isn't the real-time side's", "privileged": "an instruction that it may not perform"}
+DEVICES = {0: "the timer", 3: "COM2", 4: "COM1"}
 
 
 def arguments() -> argparse.Namespace:
@@ -49,6 +51,8 @@ class Notes:
     def of(self, line: Line) -> List[str]:
         if line.letter == "R":
             return self.of_real_time(line)
+        if line.letter == "H":
+            return of_hardware(line)
         if line.kind in ("enter", "int"):
             return self.of_entry(line)
         if line.kind == "breach":
@@ -83,6 +87,14 @@ class Notes:
         if line.kind == "fault":
             return [FAULTS[line.words[-1]] + "; it is " + ("deleted" if line.words[0] == "thread" else "ended")]
         return []
+
+
+def of_hardware(line: Line) -> List[str]:
+    """A count of 2k - 1 rises k ticks on, at two pulses a tick. Lines 0, 3 and 4 have devices."""
+    number = int(line.words[0])
+    if line.kind == "set":
+        return [f"line 0 rises in tick {line.tick + (number + 1) // 2}, unless it is set again before"]
+    return [DEVICES[number]] if number in DEVICES else []
 
 
 def asked_states(words: argparse.Namespace, trace: List[Line]) -> Dict[int, State]:

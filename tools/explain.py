@@ -1,5 +1,5 @@
 #!/usr/bin/env python3
-"""Says in words what is wrong with a system file and with the image and the script that it names, or with a flat image."""
+"""Says in words what is wrong with a system file and with the image, the modules and the script that it names, or with a flat image."""
 from __future__ import annotations
 
 import os
@@ -8,7 +8,7 @@ from typing import List, Optional
 from common import command
 from common.causes import Mistake, Refused, another, content_of
 from common.device_script import Event, read_script
-from common.elf_image import Image, place_mistake, read_image
+from common.elf_image import Image, module_mistake, place_mistake, read_image, reserved
 from common.system_file import System, read_system
 
 FLAT_LIMIT = 65_536
@@ -44,6 +44,7 @@ def explain_system(name: str) -> Report:
     report.mistakes += mistakes
     if system:
         explain_image(report, name, system)
+        explain_modules(report, name, system)
         explain_script(report, name, system)
         report.notes += other_files(name, system)
     return report
@@ -52,7 +53,7 @@ def explain_system(name: str) -> Report:
 def other_files(name: str, system: System) -> List[str]:
     """That a file is opened from here, where the reader may think of the one beside the system file."""
     notes = []
-    for file in (system.image, system.script):
+    for file in (system.image, *system.modules, system.script):
         near = another(file, name) if file is not None and os.path.isfile(file) else None
         if near:
             notes.append(f"{file}: it is opened from the folder {os.getcwd()}; {near}, beside the system file, is another")
@@ -79,6 +80,22 @@ def image_notes(system: System, image: Image) -> List[str]:
     elif image.byte(image.entry) is None:
         notes.append(f"{system.image}: its entry {image.entry:x}h is in no segment, so there are zeros; has the linker an entry?")
     return notes
+
+
+def explain_modules(report: Report, name: str, system: System) -> None:
+    taken = reserved(system.guest_memory, system.real_time_memory)
+    for number, file in enumerate(system.modules):
+        try:
+            module = read_image(file, content_of(file, name))
+        except Refused as refused:
+            report.mistakes.append(refused.mistake)
+            continue
+        mistake = module_mistake(file, module, system.guest_memory, system.real_time_memory, taken)
+        if mistake:
+            report.mistakes.append(mistake)
+        else:
+            report.notes += [f"{file}: module {number}, {segment}" for segment in module.segments]
+            report.notes.append(f"{file}: module {number}'s init is at {module.entry:x}h")
 
 
 def explain_script(report: Report, name: str, system: System) -> None:

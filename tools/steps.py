@@ -16,6 +16,7 @@ from common.states import Moment, moments
 from common.symbols import Symbols, symbols_of
 from common.system_file import read_system
 from common.trace import REGISTERS, State, TraceError, lines_of, state_of
+from common.trace_source import checked_run
 
 CLI = 0xfa
 FIRST_LIMIT = 1_000
@@ -41,6 +42,7 @@ def arguments() -> argparse.Namespace:
     parser.add_argument("system", metavar="SYSTEM", help="the system file, or with --flat a flat image")
     parser.add_argument("rest", metavar="FROM TO [ELF]", nargs="*", help="the ticks, left out with --until, and the file with the names")
     parser.add_argument("--flat", action="store_true", help="SYSTEM is an image for `flat`; then no digest of memory is printed")
+    parser.add_argument("--hardware", action="store_true", help="show the hardware's lines too")
     parser.add_argument("--until", metavar="TEXT", help="up to the first line of the trace that has this text")
     parser.add_argument("--until-eip", metavar="PLACE", help="up to the first time that the instruction there is performed")
     parser.add_argument("--before", metavar="K", type=command.positive, default=8, help="with --until: from K ticks before (8)")
@@ -182,7 +184,7 @@ def print_rows(rows: List[Tuple[Moment, str, str, str]]) -> None:
 
 def main() -> int:
     words = arguments()
-    run = Run(words.program, words.system, words.flat)
+    run = checked_run(Run(words.program, words.system, words.flat, words.hardware))
     guest = guest_of(words.system, words.flat)
     ticks_given = words.until is None and words.until_eip is None
     named = words.rest[2 if ticks_given else 0:]

@@ -13,6 +13,7 @@
 /* Functions of GATE_CALL, in EAX. */
 #define CALL_LOAD_IDT 1
 #define CALL_SET_MASK 2
+#define CALL_SET_TIMER 3
 #define CALL_TIME 6
 
 #endif

@@ -46,6 +46,15 @@ static inline void set_mask(unsigned mask) {
     __asm__ volatile("int %1" : "=a"(result) : "i"(GATE_CALL), "0"(CALL_SET_MASK), "b"(mask) : "memory");
 }
 
+/* Sets the executive's timer for the guest: with the gate in tick t, line 0 is asked in the ticks t + period, t + 2 * period and so on,
+   until the timer is set again. 0 turns it off. The answer is 0, or -22 where the period is above 1,000,000,000, and then nothing
+   changes. */
+static inline int set_timer(unsigned period) {
+    int result;
+    __asm__ volatile("int %1" : "=a"(result) : "i"(GATE_CALL), "0"(CALL_SET_TIMER), "b"(period) : "memory");
+    return result;
+}
+
 /* The number of the tick in which the gate is performed. */
 static inline unsigned time(void) {
     unsigned tick;
@@ -97,7 +106,7 @@ static inline void outb(unsigned short port, unsigned char value) {
 
 /* Handlers, of entries.S and handlers.c. Lines 0 to 31 have the vectors 32 to 63. */
 
-enum { LINE_SERIAL = 4, VECTORS = 256 };
+enum { LINE_TIMER = 0, LINE_SERIAL = 4, VECTORS = 256 };
 
 #define VECTOR_OF_LINE(line) (32 + (line))
 

@@ -102,6 +102,36 @@ def place_mistake(name: str, image: Image, guest_memory: int) -> Optional[Mistak
     return None
 
 
+class Taken(NamedTuple):
+    """A range of the real-time side that is taken, and by what."""
+    first: int
+    end: int
+    what: str
+
+
+def reserved(guest_memory: int, real_time_memory: int) -> List[Taken]:
+    """What is taken of the real-time side before any module: the stub's 16 bytes, and the stack of inits and handlers."""
+    end = guest_memory + real_time_memory
+    return [Taken(guest_memory, guest_memory + 16, "the stub's 16 bytes"), Taken(end - 4096, end, "the stack of inits and handlers")]
+
+
+def module_mistake(name: str, module: Image, guest_memory: int, real_time_memory: int, taken: List[Taken]) -> Optional[Mistake]:
+    """Why a module isn't placed: a segment outside the real-time side, or one that shares bytes with another or with what is taken. A
+    module that is placed joins what is taken."""
+    end = guest_memory + real_time_memory
+    for segment in module.segments:
+        if segment.place < guest_memory or segment.end() > end:
+            return Mistake("21", name, f"{segment}, isn't wholly on the real-time side, {guest_memory:x}h to {end - 1:x}h")
+    mine = list(taken)
+    for segment in module.segments:
+        for other in mine:
+            if segment.size and other.first < segment.end() and segment.place < other.end:
+                return Mistake("22", name, f"{segment}, shares bytes with {other.what}, {other.first:x}h to {other.end - 1:x}h")
+        mine.append(Taken(segment.place, segment.end(), f"program header {segment.number} of {name}"))
+    taken[:] = mine
+    return None
+
+
 def place_advice(segment: Segment, guest_memory: int) -> str:
     if USUAL_PLACE <= segment.place < USUAL_PLACE + USUAL_RANGE:
         return (f". {USUAL_PLACE:x}h is where ld puts a program of Linux: link with `-T examples/runtime/image.ld`, or with "

@@ -10,7 +10,7 @@ GATES = {"cli": ("F0h", "cli()"), "sti": ("F1h", "sti()"), "iret": ("F2h", "the 
          "pushf": ("F3h", "pushf()"), "popf": ("F4h", "popf()"), "hlt": ("F5h", "hlt()")}
 PORTS = {**dict.fromkeys((0x20, 0x21, 0xa0, 0xa1), "the interrupt controllers, which belong to the executive; lines are masked by "
                          "set_mask(), and no end of interrupt is written"),
-         **dict.fromkeys(range(0x40, 0x44), "the timer, which belongs to the executive; a clock is a line of the script"),
+         **dict.fromkeys(range(0x40, 0x44), "the timer, which belongs to the executive; a clock is set_timer(), or a line of the script"),
          **dict.fromkeys(range(0x2f8, 0x300), "COM2, which belongs to the real-time side; the guest's port is COM1, at 3f8h")}
 TRAPS = {0: "the divide error: the divisor was 0, or the quotient doesn't fit", 3: "INT3", 4: "INTO with OF set"}
 # A guess how near a place is that a wrong index reaches.
@@ -102,7 +102,8 @@ def end_hints(state: State, guest: Optional[Guest], trace: List[Line]) -> List[s
     if state.mode == "halted" and not state.flag():
         hints.append("the guest is halted with its flag clear, so no line wakes it: sti_and_hlt() in place of hlt(), or main has returned")
     elif state.mode == "halted" and not any(line.kind == "enter" for line in trace):
-        hints.append("the guest waits with its flag set, and no line was entered: look at its mask (set_mask) and at the script's ticks")
+        hints.append("the guest waits with its flag set, and no line was entered: look at its mask (set_mask), at the script's ticks, and "
+                     "whether its timer is set (set_timer)")
     lowest = min((segment.place for segment in guest.image.segments), default=0) if guest else 0
     if state.registers["EIP"] < lowest:
         hints.append(f"EIP is below the image, which begins at {lowest:x}h: a null pointer was called, and zeros are performed as "

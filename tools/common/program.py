@@ -9,15 +9,16 @@ from . import command
 
 
 class Run(NamedTuple):
-    """A program and what it runs: a system file, or a flat image."""
+    """A program and what it runs: a system file, with the hardware's lines or without them, or a flat image."""
     program: str
     file: str
     is_flat: bool
+    hardware: bool = False
 
     def words(self, ticks: int) -> List[str]:
         if self.is_flat:
             return [self.program, "flat", self.file, str(ticks)]
-        return [self.program, "run", self.file, "--ticks", str(ticks)]
+        return [self.program, "run", self.file, "--ticks", str(ticks)] + ["--hardware"] * self.hardware
 
 
 def output_of(run: Run, ticks: int) -> List[str]:

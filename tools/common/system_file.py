@@ -11,6 +11,7 @@ LEAST, PAGE = 65_536, 4_096
 MOST = {"guest_memory": 16_777_216, "real_time_memory": 4_194_304}
 REQUIRED = ["version", "image", "guest_memory", "real_time_memory"]
 KNOWN = REQUIRED + ["modules", "script"]
+MODULES_LIMIT = 16
 NAME_LIMIT = 255
 
 
@@ -19,6 +20,7 @@ class System(NamedTuple):
     image: str
     guest_memory: int
     real_time_memory: int
+    modules: List[str]
     script: Optional[str]
 
 
@@ -33,7 +35,8 @@ def read_system(name: str) -> Tuple[Optional[System], List[Mistake]]:
     if mistakes:
         return None, mistakes
     script = fields["script"].value if "script" in fields else None
-    return System(fields["image"].value, fields["guest_memory"].value, fields["real_time_memory"].value, script), []
+    modules = fields["modules"].value if "modules" in fields else []
+    return System(fields["image"].value, fields["guest_memory"].value, fields["real_time_memory"].value, modules, script), []
 
 
 def field_mistakes(fields: Dict[str, Field]) -> List[Tuple[int, str]]:
@@ -87,7 +90,13 @@ def name_mistake(name: str, value: object) -> Optional[str]:
 def modules_mistake(value: object) -> Optional[str]:
     if not isinstance(value, list):
         return f"`modules` is {shown(value)}, and has to be an array"
-    return "modules aren't built yet, so `modules` has to be empty or left out" if value else None
+    if len(value) > MODULES_LIMIT:
+        return f"`modules` has {len(value)} names, and a system has at most {MODULES_LIMIT} modules"
+    return next((mistake for mistake in map(module_mistake, value) if mistake), None)
+
+
+def module_mistake(value: object) -> Optional[str]:
+    return name_mistake("modules", value)
 
 
 def shown(value: object) -> str:

@@ -16,6 +16,7 @@ def add_trace_arguments(parser: argparse.ArgumentParser) -> None:
     parser.add_argument("--run", metavar="PROGRAM", help="take no file, but run this program on SYSTEM or IMAGE for N ticks")
     add_run_arguments(parser)
     parser.add_argument("--ticks", metavar="N", type=command.positive, help="with --run: how many ticks")
+    parser.add_argument("--hardware", action="store_true", help="with --run and --system: the hardware's lines too")
 
 
 def add_run_arguments(parser: argparse.ArgumentParser) -> None:
@@ -23,11 +24,18 @@ def add_run_arguments(parser: argparse.ArgumentParser) -> None:
     parser.add_argument("--flat", metavar="IMAGE", help="the flat image of the run")
 
 
+def checked_run(run: Run) -> Run:
+    """`flat` has no lines of the hardware, so asking for both ends the tool."""
+    if run.is_flat and run.hardware:
+        command.fail("a flat image has no --hardware")
+    return run
+
+
 def run_named(words: argparse.Namespace) -> Run:
     """The run that the words name by --run, --system or --flat."""
     if bool(words.system) == bool(words.flat):
         command.fail("with --run give --system SYSTEM or --flat IMAGE")
-    return Run(words.run, words.system or words.flat, bool(words.flat))
+    return checked_run(Run(words.run, words.system or words.flat, bool(words.flat), words.hardware))
 
 
 def read_trace(words: argparse.Namespace) -> List[Line]:

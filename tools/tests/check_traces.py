@@ -16,7 +16,9 @@ from typing import List
 TOP = os.path.realpath(os.path.join(os.path.dirname(__file__), "..", ".."))
 TOOLS = ["explain", "steps", "annotate", "schedule_picture", "trace_vcd", "script_recipes"]
 TRACES = ["examples/first_steps/expected", "examples/shadow_and_halt/expected", "examples/serial_echo/expected",
-          "examples/round_robin/expected", "examples/transmit/expected", "examples/interrupts/expected", "tools/tests/real_time.trace"]
+          "examples/round_robin/expected", "examples/timer/expected", "examples/transmit/expected", "examples/interrupts/expected",
+          "tools/tests/real_time.trace"]
+HARDWARE = "examples/timer/expected"
 SVG = "{http://www.w3.org/2000/svg}"
 WITHOUT_A_MARK = ("on", "halt", "end", "memory", "reply")
 
@@ -119,6 +121,36 @@ def check_annotations() -> None:
     passed(f"annotate keeps the lines of {len(TRACES)} traces")
 
 
+def check_hardware(program: str) -> None:
+    """Lines of the hardware are shown by each tool that reads traces, and asked for by --hardware."""
+    lines = [words for words in lines_of(HARDWARE) if words[0] == "H"]
+    output = tool("annotate", HARDWARE)
+    has(output, "H 50 set 399\n    -> line 0 rises in tick 250", "annotate")
+    has(output, "H 12620 set 65535\n    -> line 0 rises in tick 45388", "annotate")
+    has(output, "H 250 edge 0\n    -> the timer", "annotate")
+    text = tool("trace_vcd", HARDWARE)
+    for name, kind in (("on_edge_0", "edge"), ("on_ack_0", "ack"), ("on_set", "set")):
+        declared = re.search(rf"\$var event 1 (\S+) {name} ", text)
+        found = len(re.findall(rf"^1{re.escape(declared.group(1))}$", text, re.M)) if declared else 0
+        wanted = sum(words[2] == kind for words in lines)
+        if found != wanted:
+            fail(f"the dump of {HARDWARE} has {found} events {name}, not {wanted}")
+    has(text, f"b{399:b} ", "the dump's one-shot")
+    rows = {row.text for row in xml.etree.ElementTree.fromstring(tool("schedule_picture", HARDWARE)).iter(f"{SVG}text")}
+    if not {"edge 0", "ack 0", "set"} <= rows:
+        fail(f"the picture of {HARDWARE} has no rows for the hardware")
+    system = "examples/timer/system.toml"
+    run = ("--run", program, "--system", system, "--ticks", "300")
+    has(tool("annotate", *run, "--hardware"), "H 250 ack 0", "annotate --hardware")
+    if any(line.startswith("H ") for line in tool("annotate", *run).splitlines()):
+        fail("annotate shows the hardware's lines where they aren't asked for")
+    has(tool("steps", program, system, "250", "250", "--hardware"), "         H 250 set 399\n         G 250 enter 32", "steps --hardware")
+    for name, words in (("annotate", ("--run", program, "--flat", "examples/first.bin", "--ticks", "5", "--hardware")),
+                        ("steps", (program, "examples/first.bin", "1", "2", "--flat", "--hardware"))):
+        has(tool(name, *words, status=2), "a flat image has no --hardware", name)
+    passed("the hardware's lines are read, and shown where they are asked for")
+
+
 def check_steps(program: str) -> None:
     """By the README of first_steps: the first write is instruction 13, and its byte leaves in tick 46; main is called in tick 1."""
     system = "examples/first_steps/system.toml"
@@ -128,7 +160,7 @@ def check_steps(program: str) -> None:
     has(tool("steps", program, system, "--until", "com1 48", "--before", "2"), "G 46 com1 48", "steps --until")
     has(tool("steps", program, system, "--until-eip", "1009"), "       2 00001009", "steps --until-eip")
     if shutil.which("nm") and shutil.which("addr2line") and shutil.which("objdump"):
-        has(output, "main+1ch examples/runtime/guest.h:95", "steps")
+        has(output, "main+1ch examples/runtime/guest.h:104", "steps")
         has(output, "out %al,(%dx)", "steps")
         has(tool("steps", program, system, "--until-eip", "main"), "       2 00001009 main", "steps --until-eip")
     passed("steps shows first_steps as its page does")
@@ -193,6 +225,7 @@ def main() -> None:
         check_png(folder)
         check_dumps(folder)
         check_annotations()
+        check_hardware(program)
         check_steps(program)
         check_recipes(program, folder)
         check_errors(program)

@@ -9,7 +9,7 @@ FIELDS = [
 ]
 
 # Why it is a case, the field, its value (left out where that is empty; of no field: one more line), and the code. None is where only the
-# program says: the reader takes the file, and it may still name modules.
+# program says: the reader takes the file, and it may still name modules that aren't there.
 CHANGES = [
     ("the fields that have to be there", "", "", None),
     ("a number in hex", "version", "0x1", None),
