@@ -8,16 +8,15 @@ use Rattle.line_sets.specs.LineSet.{union, minus, first_in}
 use Rattle.soft_entry.specs.Entry.{entering}
 use Rattle.memory_model.specs.Side.{first_outside}
 use Rattle.line_kinds.specs.Calls.{PutCall, GetCall}
-use Rattle.run_lines.specs.Says.{Answer}
 use Rattle.soft_gates.specs.Gate.{gated}
 use Rattle.soft_gates.specs.Service.{service}
-use Rattle.bare_machine.specs.State.{Bare, Done, Calls, all_services, no_services, first_state}
+use Rattle.bare_machine.specs.State.{Bare, Done, Calls, first_state}
 use Rattle.bare_machine.specs.Tick.{asked_also, com1_lines, guest_begins, prepared}
-use Rattle.bare_machine.specs.Unit.{gate, guest_unit, unit_after, after_reply}
+use Rattle.bare_machine.specs.Unit.{gate, guest_unit, after_reply}
 
 -- a guest of four bytes that halted, of which line 5 is asked
 asleep : Bare
-asleep = record (first_state (record { bytes = 1 ∷ 2 ∷ 3 ∷ 4 ∷ []; entry = 0; size = 4; services = all_services })) { mode = Halted; asked = 32 }
+asleep = record (first_state (record { bytes = 1 ∷ 2 ∷ 3 ∷ 4 ∷ []; entry = 0; size = 4 })) { mode = Halted; asked = 32 }
 
 -- with the flag clear it sleeps on
 sleeps : guest_unit 9 asleep ≡ Done asleep []
@@ -57,9 +56,6 @@ more_is_asked = refl
 
 byte_has_its_line : com1_lines (Some 65) ≡ Com1 65 ∷ []
 byte_has_its_line = refl
-
-no_answer : Answer
-no_answer = record { result = pos 0; bytes = [] }
 
 -- the guest calls a function in EAX of the gate F6h, with its arguments
 calling : (function ecx edx ebx : ℕ) → Bare
@@ -112,10 +108,11 @@ result_of_the_reply : eax (after_reply (PutCall 6 []) 0 (record { result = negsu
 unfolding asleep first_state
 result_of_the_reply = refl
 
--- where there are no services, functions 3 to 5 are refused as a function 7 is, and 6 gives the tick
-without : ℕ → ℕ
-without function = eax (unit_after no_answer (gate 9 0xf6 2 (record (calling function 0 0 0) { services = no_services }))).registers
+-- function 6 gives the tick, and one that isn't defined is refused
+tells_the_tick : gate 9 0xf6 2 (calling 6 0 0 0) ≡ Done (behind (calling 9 0 0 0)) []
+unfolding calling behind asleep first_state gated service
+tells_the_tick = refl
 
-not_served : without 3 ∷ without 4 ∷ without 5 ∷ without 6 ∷ without 7 ∷ [] ≡ 0xffffffea ∷ 0xffffffea ∷ 0xffffffea ∷ 9 ∷ 0xffffffea ∷ []
-unfolding without calling asleep first_state gated service
-not_served = refl
+not_defined : gate 9 0xf6 2 (calling 7 0 0 0) ≡ Done (behind (calling 0xffffffea 0 0 0)) []
+unfolding calling behind asleep first_state gated service
+not_defined = refl

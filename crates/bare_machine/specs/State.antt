@@ -12,11 +12,9 @@ use Rattle.line_kinds.specs.declared.kinds.Mode.{Mode}
 use Rattle.line_kinds.specs.declared.kinds.Mode.TheVariants.{Runs, Halted, Stopped}
 use Rattle.port_map.specs.SerialLine.{new_serial}
 use Rattle.line_kinds.specs.Calls.{Call}
-use Rattle.soft_gates.specs.declared.calls.Services.{Services}
-pub use Rattle.soft_gates.specs.Calls.{all_services, no_services}
 
 -- bit 9 of its EFLAGS is the flag, and stands clear in its registers. `asked` is the set of lines that are asked of it. A timer of
--- period 0 is off; else line 0 is asked at its start and so many periods. `services` says which functions of the gate F6h are there
+-- period 0 is off; else line 0 is asked at its start and so many periods
 pub record Bare : Type 0 where
   pub registers : Registers
   pub side : Side
@@ -26,14 +24,12 @@ pub record Bare : Type 0 where
   pub timer_start : ℕ
   pub timer_period : ℕ
   pub mode : Mode
-  pub services : Services
 
 -- what a guest starts from: the bytes of its side, the address of its first instruction, and the size of its side
 pub record GuestStart : Type 0 where
   pub bytes : List ℕ
   pub entry : ℕ
   pub size : ℕ
-  pub services : Services
 
 -- the first state: ESP at the end of the side, EFLAGS 2 and all else 0; every line is masked, and there is no table and no timer
 unfoldable pub first_state : GuestStart → Bare
@@ -46,7 +42,6 @@ first_state start = record {
   timer_start = 0;
   timer_period = 0;
   mode = Runs;
-  services = start.services;
 }
 
 -- what a unit of the guest comes to: it is done, with its lines; or it calls, and the bytes of a get go to a place

@@ -92,7 +92,7 @@ gate_outcome t b g (MakesCall call place) = Calls call place (after_gate g b)
 gate_outcome t b g (AccessOutside access at) = breached (access_kind access at) b
 
 abbrev pub gate : ℕ → ℕ → ℕ → Bare → UnitOutcome
-gate t number next b = let g = gated number next t b.services b.registers b.soft b.side in gate_outcome t b g g.came
+gate t number next b = let g = gated number next t b.registers b.soft b.side in gate_outcome t b g g.came
 
 -- COM1 after a unit or a device step; where its line rose, line 4 is asked
 abbrev pub with_com1 : Serial → Bare → Bare

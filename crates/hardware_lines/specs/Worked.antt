@@ -1,7 +1,7 @@
 -- Small states, and what the rules of docs/SCHEDULE.md give for each: the values are the rules', and the definitions compute to them.
 use Rattle.std.specs.Prelude.{◌≡◌, ℕ, true, false, [], ◌∷◌, Some, None}
 use Rattle.line_kinds.specs.declared.kinds.HLine.TheVariants.{Edge, Ack, Set}
-use Rattle.bare_machine.specs.State.{all_services, first_state as first_bare}
+use Rattle.bare_machine.specs.State.{first_state as first_bare}
 use Rattle.priority_schedule.specs.State.{first_state as first_real}
 use Rattle.port_map.specs.Serial.{Serial}
 use Rattle.port_map.specs.SerialLine.{new_serial}
@@ -14,7 +14,7 @@ holding latch = record { hardware = record { latch = latch; rise = Some 90; last
 -- both machines as they start, with a timer of the guest
 unfoldable pub timed : ℕ → ℕ → Machines
 timed start period = record {
-  bare = record (first_bare (record { bytes = []; entry = 0; size = 0; services = all_services })) { timer_start = start; timer_period = period };
+  bare = record (first_bare (record { bytes = []; entry = 0; size = 0 })) { timer_start = start; timer_period = period };
   real = first_real (record { version = 1; side = record { first = 0; bytes = [] }; inits = [] });
 }
 

@@ -1,7 +1,7 @@
--- Laws of the runs of both machines, each a type whose proof is a function of `src/lib.rt` with an empty body. A run is of a guest start with
--- its services, a real-time start, a script and so many ticks. First comes what a solution is (`IsSolution`), which all the program's
--- promises speak of, and that there is one (`OneSolution`); then longer runs, what is printed, two guests, priority, what lines say,
--- and dues, of a tick from any state and of a run.
+-- Laws of the runs of both machines, each a type whose proof is a function of `src/lib.rt` with an empty body. A run is of a guest start, a
+-- real-time start, a script and so many ticks. First comes what a solution is (`IsSolution`), which all the program's promises speak of,
+-- and that there is one (`OneSolution`); then longer runs, what is printed, two guests, priority, what lines say, and dues, of a tick
+-- from any state and of a run.
 use Rattle.std.specs.Prelude.{◌≡◌, ℕ, suc, ◌+◌, ◌<◌, ◌≤◌, Bool, true, false, List, [], length, map, Option, Some, option_map, IfSome, fold, ◌⊎◌, None}
 use Rattle.line_sets.specs.LineSet.{has}
 use Rattle.rt_irqs.specs.Irqs.{is_held}

@@ -8,7 +8,7 @@ use Rattle.line_kinds.specs.declared.kinds.RLine.{RLine}
 use Rattle.run_lines.specs.Calls.{calls_of, first_of}
 use Rattle.run_lines.specs.Ticks.{lines_to}
 use Rattle.bare_machine.specs.Run.{end_line}
-use Rattle.bare_machine.specs.State.{GuestStart, all_services}
+use Rattle.bare_machine.specs.State.{GuestStart}
 use Rattle.priority_schedule.specs.Run.{real_end}
 use Rattle.priority_schedule.specs.State.{RealTimeStart}
 use Rattle.hardware_lines.specs.Hardware.{hardware}
@@ -33,7 +33,7 @@ placed (s ∷ segments) bytes = placed segments (take s.0 bytes ++ (s.1 ++ drop 
 
 -- a guest of so many bytes, which begins at address 0
 unfoldable pub guest_of : ℕ → List (ℕ × List ℕ) → GuestStart
-guest_of size segments = record { bytes = placed segments (replicate size 0); entry = 0; size = size; services = all_services }
+guest_of size segments = record { bytes = placed segments (replicate size 0); entry = 0; size = size }
 
 -- a real-time side of 512 bytes from 10FF0h on, with the stub and one module, whose init begins at 11000h
 unfoldable pub module_of : ℕ → List ℕ → RealTimeStart

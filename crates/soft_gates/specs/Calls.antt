@@ -1,21 +1,13 @@
 -- Calls of the guest on FIFOs, and what their replies leave.
-use Rattle.std.specs.Prelude.{ℕ, ◌≤◌, ◌≡◌, true, false, List, take, ℤ}
+use Rattle.std.specs.Prelude.{ℕ, ◌≤◌, ◌≡◌, true, List, take, ℤ}
 use Rattle.std.specs.Int.{cast_unsigned, w32}
 use Rattle.memory_model.specs.Side.{Side, covers, stored}
 use Rattle.cpu_state.specs.Registers.{with_eax}
 use Rattle.cpu_state.specs.declared.registers.Registers.{Registers}
 use Rattle.rt_constants.specs.declared.limits.TheConstants.{BYTES_LIMIT}
 use Rattle.line_kinds.specs.Calls.{Call, PutCall, GetCall}
-use Rattle.soft_gates.specs.declared.calls.Services.{Services}
 use Rattle.soft_gates.specs.declared.calls.Call.{Call as HeldCall}
 use Rattle.soft_gates.specs.declared.calls.Call.TheVariants.{Put, Get}
-
--- all of the functions are there, or those of the table, the mask and the time alone
-abbrev pub all_services : Services
-all_services = record { timer = true; fifos = true }
-
-abbrev pub no_services : Services
-no_services = record { timer = false; fifos = false }
 
 -- the call that is held, and the place of a get's bytes
 abbrev pub call_of : HeldCall → Call

@@ -11,7 +11,6 @@ use Rattle.soft_entry.specs.Entry.{below, flags_word}
 use Rattle.soft_flags.specs.declared.flags.SoftFlags.{SoftFlags}
 use Rattle.soft_gates.specs.Outcome.{GateOutcome, Finishes, Halts, AccessOutside}
 use Rattle.soft_gates.specs.Service.{Served, unshadowed, service}
-use Rattle.soft_gates.specs.declared.calls.Services.{Services}
 
 -- what a gate comes to, and what it leaves
 pub record Gated : Type 0 where
@@ -78,13 +77,13 @@ hlt next r f side = record { came = Halts; registers = at_eip next r; flags = un
 abbrev pub served : Served → Side → Gated
 served s side = record { came = s.came; registers = s.registers; flags = s.flags; side = side }
 
--- the gate of a number, F0h to F6h, where these functions of the last are there
-unfoldable pub gated : ℕ → ℕ → ℕ → Services → Registers → SoftFlags → Side → Gated
-gated number next now services r f side =
+-- the gate of a number, F0h to F6h
+unfoldable pub gated : ℕ → ℕ → ℕ → Registers → SoftFlags → Side → Gated
+gated number next now r f side =
     if number == 0xf0 then cli next r f side
     else if number == 0xf1 then sti next r f side
     else if number == 0xf2 then iret r f side
     else if number == 0xf3 then pushf next r f side
     else if number == 0xf4 then popf next r f side
     else if number == 0xf5 then hlt next r f side
-    else served (service side next now services r f) side
+    else served (service side next now r f) side

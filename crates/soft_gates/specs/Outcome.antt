@@ -1,11 +1,10 @@
 -- What a gate comes to.
-use Rattle.std.specs.Prelude.{ℕ, ◌≤◌, IsTrue}
+use Rattle.std.specs.Prelude.{ℕ, ◌≤◌}
 use Rattle.memory_model.specs.Side.{Side}
 use Rattle.cpu_state.specs.declared.registers.Access.{Access}
 use Rattle.rt_constants.specs.declared.limits.TheConstants.{SPAN_LIMIT}
 use Rattle.line_kinds.specs.Calls.{Call}
 use Rattle.soft_gates.specs.Calls.{call_of, place_of, IsBounded}
-use Rattle.soft_gates.specs.declared.calls.Services.{Services}
 use Rattle.soft_gates.specs.declared.gates.GateUnit.{GateUnit}
 use Rattle.soft_gates.specs.declared.gates.GateUnit.TheVariants.{Finished, Halted, Timer, Calls, Outside}
 
@@ -30,8 +29,8 @@ abbrev pub WhenOutside : GateUnit → Type 0 → Type 0
 WhenOutside (Outside access at) P = P
 WhenOutside _ P = Unit {0}
 
--- only functions that are there set the timer or call; a period is at most 1,000,000,000 ticks, and a call is bounded
-abbrev pub IsOffered : Services → Side → GateUnit → Type 0
-IsOffered services side (Timer period) = IsTrue services.timer × (period ≤ SPAN_LIMIT)
-IsOffered services side (Calls call) = IsTrue services.fifos × IsBounded side call
-IsOffered services side _ = Unit {0}
+-- a period is at most 1,000,000,000 ticks, and a call is bounded
+abbrev pub IsBoundedUnit : Side → GateUnit → Type 0
+IsBoundedUnit side (Timer period) = period ≤ SPAN_LIMIT
+IsBoundedUnit side (Calls call) = IsBounded side call
+IsBoundedUnit side _ = Unit {0}

@@ -1,6 +1,6 @@
 -- The calls of the executive, INT F6h: the function is in EAX, its arguments in EBX, ECX and EDX, and the result is left in EAX. All
 -- are this project's own.
-use Rattle.std.specs.Prelude.{ℕ, ◌==◌, nat_lt, false, ◌&&◌, length, if◌then◌else◌, Option, Some, None, ℤ, pos}
+use Rattle.std.specs.Prelude.{ℕ, ◌==◌, nat_lt, false, length, if◌then◌else◌, Option, Some, None, ℤ, pos}
 use Rattle.memory_model.specs.Side.{Side, bytes_at, first_outside}
 use Rattle.cpu_state.specs.Registers.{eax, ebx, ecx, edx, at_eip}
 use Rattle.cpu_state.specs.declared.registers.Access.TheVariants.{Load, Store}
@@ -13,7 +13,6 @@ use Rattle.soft_flags.specs.SoftFlags.{table_answer, with_table}
 use Rattle.soft_flags.specs.declared.flags.SoftFlags.{SoftFlags}
 use Rattle.soft_gates.specs.Calls.{with_result}
 use Rattle.soft_gates.specs.Outcome.{GateOutcome, Finishes, SetsTimer, MakesCall, AccessOutside}
-use Rattle.soft_gates.specs.declared.calls.Services.{Services}
 
 -- what a function comes to, and what it leaves. None changes the side before a reply
 pub record Served : Type 0 where
@@ -78,16 +77,16 @@ fifo_get side next r f =
 abbrev pub time : ℕ → ℕ → Registers → SoftFlags → Served
 time now next r f = results_in (pos now) next r f
 
--- every function that isn't there is refused
-abbrev pub service_by : ℕ → Side → ℕ → ℕ → Services → Registers → SoftFlags → Served
-service_by function side next now services r f =
+-- every function that isn't defined is refused
+abbrev pub service_by : ℕ → Side → ℕ → ℕ → Registers → SoftFlags → Served
+service_by function side next now r f =
     if function == 1 then load_idt (length side.bytes) next r f
     else if function == 2 then set_mask next r f
-    else if function == 3 && services.timer then set_timer next r f
-    else if function == 4 && services.fifos then fifo_put side next r f
-    else if function == 5 && services.fifos then fifo_get side next r f
+    else if function == 3 then set_timer next r f
+    else if function == 4 then fifo_put side next r f
+    else if function == 5 then fifo_get side next r f
     else if function == 6 then time now next r f
     else refused next r f
 
-unfoldable pub service : Side → ℕ → ℕ → Services → Registers → SoftFlags → Served
-service side next now services r f = service_by (eax r) side next now services r f
+unfoldable pub service : Side → ℕ → ℕ → Registers → SoftFlags → Served
+service side next now r f = service_by (eax r) side next now r f

@@ -9,13 +9,6 @@ use cpu_state::{EAX, Registers};
 use flat_memory::Side;
 use side_ranges::{range, store_bytes, with_zeros};
 
-/// Which functions of INT F6h are there beside the table, the mask and the time: the timer's, and the calls on FIFOs.
-#[derive(Clone, Copy, Debug, PartialEq, Eq)]
-pub struct Services {
-    pub timer: bool,
-    pub fifos: bool,
-}
-
 /// A put of the first `length` of these bytes, at most 256, into a FIFO.
 #[derive(Clone, Copy, Debug)]
 pub struct PutCall {

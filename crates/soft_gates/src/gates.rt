@@ -4,9 +4,9 @@ ghost use Rattle.cpu_state.specs.Eflags.{bit};
 ghost use Rattle.flat_memory.specs.Side.{side_of};
 ghost use Rattle.soft_flags.specs.SoftFlags.{HasTableIn};
 ghost use Rattle.soft_gates.specs.Gate.{gated, iret, pushf, popf, popped_flags};
-ghost use Rattle.soft_gates.specs.Outcome.{outcome_of, WhenOutside, IsOffered};
+ghost use Rattle.soft_gates.specs.Outcome.{outcome_of, WhenOutside, IsBoundedUnit};
 
-use crate::calls::{Call, Services};
+use crate::calls::Call;
 use crate::service::service;
 use cpu_state::{Access, ESP, Eflags, Registers};
 use flat_memory::Side;
@@ -124,14 +124,12 @@ fn perform_popf(next: u32, regs: &mut Registers, flags: &mut SoftFlags, side: &S
 }
 
 /// Performs the gate of a number, F0h to F6h, in tick `now`. EIP becomes `next`, the address behind the gate, or what iret
-/// pops. Where an access is outside, nothing changes. `services` says which functions of F6h are there; the others are
-/// refused.
+/// pops. Where an access is outside, nothing changes.
 #[tactic(auto, unfolding(crate::specs::Gate::gated))]
 pub fn gate(
     number: u8,
     next: u32,
     now: u32,
-    services: Services,
     regs: &mut Registers,
     flags: &mut SoftFlags,
     side: &mut Side<'_>,
@@ -140,8 +138,8 @@ pub fn gate(
     requires last { number ≤ 0xf6 }
     requires size { (side_of side.old).first + length (side_of side.old).bytes < 2 ^ 32 }
     ensures gated { record { came = outcome_of result; registers = regs.new; flags = flags.new; side = side_of side.new }
-        ≡ gated number next now services regs.old flags.old (side_of side.old) }
-    ensures offered { IsOffered services (side_of side.new) result }
+        ≡ gated number next now regs.old flags.old (side_of side.old) }
+    ensures bounded { IsBoundedUnit (side_of side.new) result }
     ensures first { side.new.first ≡ side.old.first }
     ensures same_loan { side.new.bytes.ghost_name ≡ side.old.bytes.ghost_name }
     ensures unchanged { WhenOutside result ((regs.new ≡ regs.old) × (flags.new ≡ flags.old) × (side_of side.new ≡ side_of side.old)) }
@@ -166,6 +164,6 @@ pub fn gate(
             flags.unit_done();
             GateUnit::Halted
         }
-        _ => service(next, now, services, regs, flags, side),
+        _ => service(next, now, regs, flags, side),
     }
 }

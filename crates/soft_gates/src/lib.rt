@@ -5,5 +5,5 @@ mod calls;
 mod gates;
 mod service;
 
-pub use calls::{Call, GetCall, PutCall, Services, reply};
+pub use calls::{Call, GetCall, PutCall, reply};
 pub use gates::{GateUnit, gate};

@@ -1,13 +1,13 @@
 // The calls of the executive.
-ghost use Rattle.std.specs.Prelude.{◌≡◌, ◌<◌, ◌+◌, ◌^◌, length, IsTrue};
+ghost use Rattle.std.specs.Prelude.{◌≡◌, ◌<◌, ◌+◌, ◌^◌, length};
 ghost use Rattle.std.specs.Int.{cast_unsigned, w32};
 ghost use Rattle.cpu_state.specs.Registers.{at_eip};
 ghost use Rattle.flat_memory.specs.Side.{side_of};
 ghost use Rattle.soft_flags.specs.SoftFlags.{HasTableIn};
-ghost use Rattle.soft_gates.specs.Outcome.{outcome_of, Finishes, WhenOutside, IsOffered};
+ghost use Rattle.soft_gates.specs.Outcome.{outcome_of, Finishes, WhenOutside, IsBoundedUnit};
 ghost use Rattle.soft_gates.specs.Service.{unshadowed, refused, set_timer as set_timer_of, fifo_put as fifo_put_of, fifo_get as fifo_get_of, service as service_of};
 
-use crate::calls::{Call, GetCall, Services, put_call};
+use crate::calls::{Call, GetCall, put_call};
 use crate::gates::GateUnit;
 use cpu_state::{Access, EAX, EBX, ECX, EDX, Registers};
 use flat_memory::Side;
@@ -45,7 +45,7 @@ fn leave(next: u32, regs: &mut Registers, flags: &mut SoftFlags)
     flags.unit_done();
 }
 
-// A function that isn't there, or an argument that it doesn't take.
+// A function that isn't defined, or an argument that it doesn't take.
 fn refuse(next: u32, regs: &mut Registers, flags: &mut SoftFlags)
     ensures { record { came = Finishes; registers = regs.new; flags = flags.new } ≡ refused next regs.old flags.old }
 {
@@ -57,7 +57,7 @@ fn set_timer(next: u32, regs: &mut Registers, flags: &mut SoftFlags) -> GateUnit
     ensures served { record { came = outcome_of result; registers = regs.new; flags = flags.new }
         ≡ set_timer_of next regs.old flags.old }
     ensures unchanged { WhenOutside result ((regs.new ≡ regs.old) × (flags.new ≡ flags.old)) }
-    ensures offered { (services : Services) → (s : _) → IsTrue services.timer → IsOffered services s result }
+    ensures bounded { (s : _) → IsBoundedUnit s result }
     ensures same_table { (flags.new.idt ≡ flags.old.idt) × (flags.new.entries ≡ flags.old.entries) }
 {
     let period = regs.general[EBX];
@@ -75,7 +75,7 @@ fn fifo_put(next: u32, regs: &mut Registers, flags: &mut SoftFlags, side: &Side<
     ensures served { record { came = outcome_of result; registers = regs.new; flags = flags.new }
         ≡ fifo_put_of (side_of side.now) next regs.old flags.old }
     ensures unchanged { WhenOutside result ((regs.new ≡ regs.old) × (flags.new ≡ flags.old)) }
-    ensures offered { (services : Services) → IsTrue services.fifos → IsOffered services (side_of side.now) result }
+    ensures bounded { IsBoundedUnit (side_of side.now) result }
     ensures same_table { (flags.new.idt ≡ flags.old.idt) × (flags.new.entries ≡ flags.old.entries) }
 {
     let fifo = regs.general[EBX];
@@ -99,7 +99,7 @@ fn fifo_get(next: u32, regs: &mut Registers, flags: &mut SoftFlags, side: &Side<
     ensures served { record { came = outcome_of result; registers = regs.new; flags = flags.new }
         ≡ fifo_get_of (side_of side.now) next regs.old flags.old }
     ensures unchanged { WhenOutside result ((regs.new ≡ regs.old) × (flags.new ≡ flags.old)) }
-    ensures offered { (services : Services) → IsTrue services.fifos → IsOffered services (side_of side.now) result }
+    ensures bounded { IsBoundedUnit (side_of side.now) result }
     ensures same_table { (flags.new.idt ≡ flags.old.idt) × (flags.new.entries ≡ flags.old.entries) }
 {
     let fifo = regs.general[EBX];
@@ -119,29 +119,28 @@ fn fifo_get(next: u32, regs: &mut Registers, flags: &mut SoftFlags, side: &Side<
     }
 }
 
-/// Performs the function of EAX with its arguments EBX, ECX and EDX in tick `now`, where these functions are there.
+/// Performs the function of EAX with its arguments EBX, ECX and EDX in tick `now`.
 #[tactic(auto, unfolding(crate::specs::Service::service))]
 pub fn service(
     next: u32,
     now: u32,
-    services: Services,
     regs: &mut Registers,
     flags: &mut SoftFlags,
     side: &Side<'_>,
 ) -> GateUnit
     requires { (side_of side.now).first + length (side_of side.now).bytes < 2 ^ 32 }
     ensures served { record { came = outcome_of result; registers = regs.new; flags = flags.new }
-        ≡ service_of (side_of side.now) next now services regs.old flags.old }
+        ≡ service_of (side_of side.now) next now regs.old flags.old }
     ensures unchanged { WhenOutside result ((regs.new ≡ regs.old) × (flags.new ≡ flags.old)) }
-    ensures offered { IsOffered services (side_of side.now) result }
+    ensures bounded { IsBoundedUnit (side_of side.now) result }
     ensures table { let size = length (side_of side.now).bytes in HasTableIn flags.old size → HasTableIn flags.new size }
 {
     let first = regs.general[EBX];
     let second = regs.general[ECX];
     let word = match regs.general[EAX] {
-        TIMER if services.timer => return set_timer(next, regs, flags),
-        FIFO_PUT if services.fifos => return fifo_put(next, regs, flags, side),
-        FIFO_GET if services.fifos => return fifo_get(next, regs, flags, side),
+        TIMER => return set_timer(next, regs, flags),
+        FIFO_PUT => return fifo_put(next, regs, flags, side),
+        FIFO_GET => return fifo_get(next, regs, flags, side),
         LOAD_IDT => as_register(flags.load_idt(first, second, side.size())),
         MASK => {
             flags.mask = first;
