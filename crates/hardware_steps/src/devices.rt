@@ -4,12 +4,23 @@ ghost use Rattle.line_sets.specs.LineSet.{has};
 ghost use Rattle.pic_8259.specs.Controllers.{latch_of};
 ghost use Rattle.port_board.specs.Board.{AreEvents, device_step, edges_of};
 ghost use Rattle.hardware_steps.specs.HardwareOf.{IsBoard, marking_of};
-ghost use Rattle.hardware_steps.specs.Steps.{board_stepped};
+ghost use Rattle.hardware_steps.specs.Steps.{board_stepped, with_edge_lines};
 
-use crate::edges::push_edges;
+use crate::edges::push_each;
 use device_script::Event;
 use port_board::{Board, Edges};
 use trace_lines::Lines;
+
+// The lines that rose have their edges. `push_edges` is the same for a unit: each has the test in its own place, so that a tick in which
+// nothing rose calls nothing.
+fn push_risen(set: u16, lines: &mut Lines)
+    requires { length lines.old.h ≤ 112 }
+    ensures { lines.new ≡ with_edge_lines set lines.old }
+{
+    if set != 0 {
+        push_each(set, lines);
+    }
+}
 
 /// The device step of tick `now` with the script's events of that tick: each line that rises is latched and has its `edge` line, by
 /// rising number. Of the tick's lines the R and G lines stay.
@@ -25,6 +36,6 @@ pub fn step_devices(now: u32, events: &[Event], board: &mut Board, lines: &mut L
     ensures lines { lines.new ≡ record lines.old { h = lines.new.h } }
 {
     let edges = board.tick(events);
-    push_edges(edges.lines, lines);
+    push_risen(edges.lines, lines);
     edges
 }

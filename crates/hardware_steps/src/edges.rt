@@ -18,7 +18,8 @@ fn push_edge(line: u8, set: u16, lines: &mut Lines)
     }
 }
 
-fn push_each(set: u16, lines: &mut Lines)
+// The edges of a set in which there are some.
+pub fn push_each(set: u16, lines: &mut Lines)
     requires { length lines.old.h ≤ 112 }
     ensures { lines.new ≡ with_edge_lines set lines.old }
 {

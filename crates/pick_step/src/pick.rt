@@ -89,7 +89,10 @@ fn guest_goes_on(processor: &Processor, all: &Executive, inits: &Inits) -> bool
     ensures on { result ≡ true → processor.now.on ≡ Some whos.Guest }
     ensures quiet { result ≡ true → IsQuiet inits.now all.now }
 {
-    is_on(Who::Guest, processor.on) && is_quiet(all, inits)
+    match processor.on {
+        Some(Who::Guest) => is_quiet(all, inits),
+        _ => false,
+    }
 }
 
 // Picks what is on the processor, and turns to it where something else or nothing was.

@@ -18,5 +18,5 @@ returns-clause-hardware c = λ k last is_next.
     let t = c.tick-edges.ensures in
     let is = c.requires.board in
     let small : edges < 2 ^ 16 = search rules in
-    stepped_at c.args.now k last edges c.args.events.now b after hs c.push_edges.new.lines.h is_next (ap (λ (l : TickLines). l.h) c.push_edges.ensures)
+    stepped_at c.args.now k last edges c.args.events.now b after hs c.push_risen.new.lines.h is_next (ap (λ (l : TickLines). l.h) c.push_risen.ensures)
     (stepped k last edges c.args.events.now b after hs small is.shot (t.rising is.shot) (t.latched is.pair) (t.left is.shot))
