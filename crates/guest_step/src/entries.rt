@@ -7,7 +7,7 @@ ghost use Rattle.soft_flags.specs.SoftFlags.{HasTableIn, is_open};
 ghost use Rattle.pending_irqs.specs.Pending.{lowest_enabled};
 ghost use Rattle.soft_entry.specs.Entry.{entering};
 ghost use Rattle.bare_machine.specs.Unit.{int_entry, asked_entry};
-ghost use Rattle.guest_step.specs.Leaves.{parts, bare_marked, CanBegin, Leaves};
+ghost use Rattle.guest_step.specs.Leaves.{parts, bare_marked, CanBegin, LeavesAlone};
 
 use cpu_state::Registers;
 use flat_memory::{FlatMemory, Side};
@@ -51,7 +51,7 @@ pub fn enter_vector(
     requires runs { guest.old.mode ≡ Mode.Runs }
     ensures leaves { let old = parts memory.old registers.old guest.old lines.old in
         let new = parts memory.new registers.new guest.new lines.new in
-        (com1 : _) → Leaves (int_entry vector push (bare_marked old com1)) com1 new.guest.pending old new }
+        (com1 : _) → LeavesAlone (int_entry vector push (bare_marked old com1)) com1 new.guest.pending old new }
     ensures edges { lines.new.h ≡ lines.old.h }
     ensures timer { (guest.new.timer_start ≡ guest.old.timer_start) × (guest.new.timer_period ≡ guest.old.timer_period) }
 {
@@ -89,7 +89,7 @@ pub fn enter_line(
     requires can_begin { CanBegin (parts memory.old registers.old guest.old lines.old) }
     ensures leaves { let old = parts memory.old registers.old guest.old lines.old in
         let new = parts memory.new registers.new guest.new lines.new in
-        (com1 : _) → Leaves (asked_entry line (bare_marked old com1)) com1 new.guest.pending old new }
+        (com1 : _) → LeavesAlone (asked_entry line (bare_marked old com1)) com1 new.guest.pending old new }
     ensures edges { lines.new.h ≡ lines.old.h }
     ensures timer { (guest.new.timer_start ≡ guest.old.timer_start) × (guest.new.timer_period ≡ guest.old.timer_period) }
 {

@@ -1,6 +1,7 @@
 //! The fourth step of a tick where the guest is on: its unit.
 #![tactic(auto)]
 
+mod calls;
 mod entries;
 mod gates;
 mod kinds;

@@ -24,6 +24,7 @@ use hardware_steps::unit_edges;
 use machine_state::{DueChange, Guest};
 use port_board::Board;
 use port_map::ComPort;
+use rt_fifos::Fifos;
 use rt_timeline::Timeline;
 use trace_lines::{GLine, Lines, Mode};
 
@@ -76,6 +77,7 @@ fn instruction(
     board: &mut Board,
     guest: &mut Guest,
     timeline: &mut Timeline,
+    fifos: &mut Fifos,
     lines: &mut Lines,
 ) -> DueChange
     requires can_begin { CanBegin (parts memory.old registers.old guest.old lines.old) }
@@ -86,7 +88,7 @@ fn instruction(
     ensures leaves { let old = parts memory.old registers.old guest.old lines.old in
         let new = parts memory.new registers.new guest.new lines.new in
         Leaves (instruction_of now (bare_marked old (com1_of board.old)))
-        (com1_of board.new) (asked_after (com1_of board.old) (com1_of board.new) guest.new.pending) old new }
+        (com1_of board.new) (asked_after (com1_of board.old) (com1_of board.new) guest.new.pending) fifos.old fifos.new old new }
     ensures board { LeavesBoard board.old board.new lines.old.h lines.new.h }
     ensures times { Times now result guest.old guest.new timeline.old timeline.new }
 {
@@ -101,7 +103,9 @@ fn instruction(
             DueChange::Same
         }
         GuestUnit::Gate(number, next) => {
-            perform_gate(number, next, now, memory, registers, guest, timeline, lines)
+            perform_gate(
+                number, next, now, memory, registers, guest, timeline, fifos, lines,
+            )
         }
         GuestUnit::Breach(breach) => {
             guest.mode = Mode::Stopped;
@@ -120,6 +124,7 @@ fn first_of_all(
     board: &mut Board,
     guest: &mut Guest,
     timeline: &mut Timeline,
+    fifos: &mut Fifos,
     lines: &mut Lines,
 ) -> DueChange
     requires can_begin { CanBegin (parts memory.old registers.old guest.old lines.old) }
@@ -129,7 +134,7 @@ fn first_of_all(
     ensures leaves { let old = parts memory.old registers.old guest.old lines.old in
         let new = parts memory.new registers.new guest.new lines.new in
         Leaves (guest_unit_of now (bare_marked old (com1_of board.old)))
-        (com1_of board.new) (asked_after (com1_of board.old) (com1_of board.new) guest.new.pending) old new }
+        (com1_of board.new) (asked_after (com1_of board.old) (com1_of board.new) guest.new.pending) fifos.old fifos.new old new }
     ensures board { LeavesBoard board.old board.new lines.old.h lines.new.h }
     ensures times { Times now result guest.old guest.new timeline.old timeline.new }
 {
@@ -143,10 +148,10 @@ fn first_of_all(
     if guest.mode == Mode::Halted {
         return DueChange::Same;
     }
-    instruction(now, memory, registers, board, guest, timeline, lines)
+    instruction(now, memory, registers, board, guest, timeline, fifos, lines)
 }
 
-/// The guest's unit in tick `now`, with its line, if it has one. Where the guest is stopped, nothing happens. Else an asked line that may be
+/// The guest's unit in tick `now`, with its line, if it has one, and that of the answer to its call. Where the guest is stopped, nothing happens. Else an asked line that may be
 /// entered goes first. Else, where the guest is halted, nothing happens. It comes only in a tick that drains, behind the drain: so nothing
 /// is latched, and no due of the guest has come. Answers whether the dues may have changed: function 3 of INT F6h sets the guest's timer.
 pub fn guest_unit(
@@ -156,6 +161,7 @@ pub fn guest_unit(
     board: &mut Board,
     guest: &mut Guest,
     timeline: &mut Timeline,
+    fifos: &mut Fifos,
     lines: &mut Lines,
 ) -> DueChange
     requires tick { now ≤ 1000000000 }
@@ -165,30 +171,30 @@ pub fn guest_unit(
     requires taken { rises_of board.old ≡ 0 }
     requires emptied { latch_of board.old.pair ≡ 0 }
     requires calm { has_come now timeline.old.guest ≡ false }
-    requires room { (length lines.old.g ≤ 7) × (length lines.old.h ≤ 64) }
+    requires room { (length lines.old.g ≤ 7) × ((length lines.old.r ≤ 120) × (length lines.old.h ≤ 64)) }
     ensures step { (m : MachineParts) → m.ticks ≡ now → m.processor.on ≡ Some whos.Guest
         → IsRunning (record m {
           memory = memory.old;
           processor = record m.processor { registers = registers.old };
           board = board.old;
           guest = guest.old;
-          all = record m.all { timeline = timeline.old };
+          all = record m.all { timeline = timeline.old; fifos = fifos.old };
         })
         → GuestStep now (record m {
           memory = memory.old;
           processor = record m.processor { registers = registers.old };
           board = board.old;
           guest = guest.old;
-          all = record m.all { timeline = timeline.old };
+          all = record m.all { timeline = timeline.old; fifos = fifos.old };
         })
         (record m {
           memory = memory.new;
           processor = record m.processor { registers = registers.new };
           board = board.new;
           guest = guest.new;
-          all = record m.all { timeline = timeline.new };
+          all = record m.all { timeline = timeline.new; fifos = fifos.new };
         }) lines.old lines.new result }
     ensures few { length lines.new.h ≤ length lines.old.h + 16 }
 {
-    first_of_all(now, memory, registers, board, guest, timeline, lines)
+    first_of_all(now, memory, registers, board, guest, timeline, fifos, lines)
 }

@@ -1,5 +1,5 @@
 -- The states of the definitions that a machine stands for: the bare machine's, the real-time side's and the hardware's.
-use Rattle.std.specs.Prelude.{ℕ, true, false, if◌then◌else◌, Option}
+use Rattle.std.specs.Prelude.{ℕ, if◌then◌else◌, Option}
 use Rattle.line_sets.specs.LineSet.{with_line}
 use Rattle.pic_8259.specs.Controllers.{latch_of}
 use Rattle.port_map.specs.declared.com_port.ComPort.TheVariants.{Com1, Com2}
@@ -7,7 +7,6 @@ use Rattle.port_board.specs.Board.{serial_of}
 use Rattle.rt_irqs.specs.Irqs.{Lines}
 use Rattle.rt_ready.specs.Order.{arrivals}
 use Rattle.hard_dispatch.specs.Sets.{asked_lines, marked_lines}
-use Rattle.soft_gates.specs.declared.calls.Services.{Services}
 use Rattle.activity_contexts.specs.Contexts.{live_threads, guest_registers, activity_registers}
 use Rattle.bare_machine.specs.State.{Bare}
 use Rattle.priority_schedule.specs.State.{RealTime}
@@ -15,10 +14,6 @@ use Rattle.hardware_lines.specs.Hardware.{Hardware, Machines}
 use Rattle.hardware_steps.specs.HardwareOf.{hardware_of}
 use Rattle.schedule_steps.specs.Dues.{has_come}
 use Rattle.machine_state.specs.Parts.{MachineParts, guest_side, real_side}
-
--- the functions of the guest's gate F6h that are there, as far as the machine is built: its timer, and no FIFOs
-abbrev pub services_here : Services
-services_here = record { timer = true; fifos = false }
 
 -- the lines that are asked of the guest at tick t: those that are marked for it; the latched ones that go to it, which are neither line 0
 -- nor line 3 nor a held one; and line 0 where a due of its timer has come that wasn't acknowledged
@@ -37,7 +32,6 @@ bare_of m = record {
   timer_start = m.guest.timer_start;
   timer_period = m.guest.timer_period;
   mode = m.guest.mode;
-  services = services_here;
 }
 
 -- the real-time side: a thread that is on has the processor's registers, and so has an init or handler; a latched line that a module

@@ -19,8 +19,8 @@ use gate_table::{GateName, Request};
 use rt_fifos::Fifos;
 use side_ranges::{range, store_bytes};
 
-// Moves the first bytes of a FIFO, at most so many, to the front of these.
-fn take_out(fifo: u32, count: u32, fifos: &mut Fifos, into: &mut [u8; 256]) -> i32
+/// Moves the first bytes of a FIFO, at most so many, to the front of these, and says how many; -19 exactly where there is no such FIFO.
+pub fn take_out(fifo: u32, count: u32, fifos: &mut Fifos, into: &mut [u8; 256]) -> i32
     requires { count ≤ BYTES_LIMIT }
     ensures result { result ≡ (get_reply fifo count fifos.old).result }
     ensures few { IsAtMost count result }

@@ -18,4 +18,5 @@ pub use caller::Caller;
 pub use drop::drop_caller;
 pub use effect::{Effect, ModuleUnit};
 pub use executive::Executive;
+pub use fifos::take_out;
 pub use gates::gate;

@@ -56,6 +56,8 @@ pub struct Machine {
     script: Script,
     // the place of the first event to come
     next: usize,
+    // where the events of a tick are copied, so that no tick makes room for them
+    room: [Event; MOST_EVENTS],
     ticks: u32,
 }
 
@@ -103,6 +105,7 @@ impl Machine {
             modules: Inits::new(inits),
             script,
             next: 0,
+            room: [Event::Line(1); MOST_EVENTS],
             ticks: 0,
         })
     }
@@ -117,16 +120,15 @@ impl Machine {
         ensures ticks { self.new.ticks ≡ self.old.ticks + 1 }
     {
         lines.clear();
-        let draining = drains(&self.processor);
         self.ticks += 1;
-        let mut room = [Event::Line(1); MOST_EVENTS];
         let count = take_events(
             self.script.events.as_slice(),
             &mut self.next,
             self.ticks,
-            &mut room,
+            &mut self.room,
         );
-        devices(self.ticks, &room[..count], &mut self.board, lines);
+        devices(self.ticks, &self.room[..count], &mut self.board, lines);
+        let draining = drains(&self.processor);
         drain_where(
             draining,
             self.ticks,

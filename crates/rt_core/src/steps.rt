@@ -40,8 +40,7 @@ pub fn drains(processor: &Processor) -> bool
 {
     match processor.on {
         None | Some(Who::Guest) => true,
-        Some(Who::Thread(_)) => processor.registers.eflags.interrupt,
-        Some(Who::Init(_) | Who::Irq(_) | Who::Fifo(_)) => false,
+        Some(who) => processor.registers.eflags.interrupt && matches!(who, Who::Thread(_)),
     }
 }
 
@@ -121,6 +120,7 @@ pub fn unit(
             board,
             guest,
             &mut all.timeline,
+            &mut all.fifos,
             lines,
         ),
         Some(caller) => activity_unit(

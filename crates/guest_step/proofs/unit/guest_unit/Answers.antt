@@ -8,5 +8,5 @@ returns-clause-step c = λ m at on is.
     step_done c.args.now m
     (parts c.args.memory.now c.args.registers.now c.args.guest.now c.args.lines.now)
     (parts c.first_of_all.new.memory c.first_of_all.new.registers c.first_of_all.new.guest c.first_of_all.new.lines)
-    c.args.board.now c.first_of_all.new.board c.args.timeline.now c.first_of_all.new.timeline c.first_of_all.result
+    c.args.board.now c.first_of_all.new.board c.args.timeline.now c.first_of_all.new.timeline c.args.fifos.now c.first_of_all.new.fifos c.first_of_all.result
     at on c.requires.emptied c.requires.calm done.leaves done.board done.times is
