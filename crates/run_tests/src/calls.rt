@@ -53,6 +53,7 @@ fn status_of(text: &str) -> Result<Status, Fail> {
     match text {
         "done" => Ok(Status::Done),
         "breach" => Ok(Status::Breach),
+        "fault" => Ok(Status::RtFault),
         "usage" => Ok(Status::Usage),
         "read" => Ok(Status::Outside(Device::Read)),
         "write" => Ok(Status::Outside(Device::Write)),
@@ -84,6 +85,50 @@ fn store_of(alloc: Global, files: Files, failing: &[u32]) -> Result<MemoryStore,
     Ok(MemoryStore::new(held, failing.to_vec(alloc)?))
 }
 
+/// What a call came to: its status, whether it kept a machine, and the sink with what it wrote.
+#[derive(Drop)]
+pub struct Answer {
+    pub status: Status,
+    pub kept: bool,
+    pub sink: MemorySink,
+}
+
+/// What these words come to over a store and a sink of so much room, of which these puts fail.
+pub fn answer_of(
+    alloc: Global,
+    words: &str,
+    mut store: MemoryStore,
+    room: usize,
+    puts: &[(u32, u32)],
+) -> Result<Answer, Fail> {
+    let mut sink = MemorySink::new(alloc, room, puts.to_vec(alloc)?)
+        .ok()
+        .ok_or("no sink")?;
+    let mut last = Last::Nothing;
+    let status = rtlinux(
+        alloc,
+        &words_of(alloc, words)?,
+        &mut store,
+        &mut sink,
+        &mut last,
+    );
+    let kept = matches!(last, Last::Ran(_));
+    Ok(Answer { status, kept, sink })
+}
+
+/// Has an answer this status and this output? The machine is kept where the ticks ran.
+pub fn has_come(alloc: Global, answer: &Answer, status: &str, output: &str) -> Result<bool, Fail> {
+    let ran = matches!(
+        answer.status,
+        Status::Done | Status::Breach | Status::RtFault
+    );
+    Ok(
+        answer.status == status_of(status)?
+            && answer.sink.written() == bytes_of(alloc, output)?.as_slice()
+            && answer.kept == ran,
+    )
+}
+
 /// Are these the status and the output for these words and files? The machine is kept where the ticks ran.
 pub fn answers_failing(
     alloc: Global,
@@ -93,24 +138,9 @@ pub fn answers_failing(
     status: &str,
     output: &str,
 ) -> Result<bool, Fail> {
-    let mut store = store_of(alloc, files, failing.fetches)?;
-    let mut sink = MemorySink::new(alloc, 4000, failing.puts.to_vec(alloc)?)
-        .ok()
-        .ok_or("no sink")?;
-    let mut last = Last::Nothing;
-    let answer = rtlinux(
-        alloc,
-        &words_of(alloc, words)?,
-        &mut store,
-        &mut sink,
-        &mut last,
-    );
-    let ran = answer == Status::Done || answer == Status::Breach;
-    Ok(
-        answer == status_of(status)?
-            && sink.written() == bytes_of(alloc, output)?.as_slice()
-            && matches!(last, Last::Ran(_)) == ran,
-    )
+    let store = store_of(alloc, files, failing.fetches)?;
+    let answer = answer_of(alloc, words, store, 4000, failing.puts)?;
+    has_come(alloc, &answer, status, output)
 }
 
 /// The same where nothing fails.

@@ -12,14 +12,30 @@ mod failures;
 #[cfg(test)]
 mod flat_images;
 #[cfg(test)]
+mod guest_calls;
+#[cfg(test)]
+mod guests;
+#[cfg(test)]
 mod hardware;
 #[cfg(test)]
 mod host;
 #[cfg(test)]
 mod images;
 #[cfg(test)]
+mod module_files;
+#[cfg(test)]
+mod modules;
+#[cfg(test)]
+mod planned;
+#[cfg(test)]
+mod real_time_lines;
+#[cfg(test)]
+mod refused_modules;
+#[cfg(test)]
 mod scripts;
 #[cfg(test)]
 mod system_files;
 #[cfg(test)]
 mod systems;
+#[cfg(test)]
+mod threads;
