@@ -9,6 +9,7 @@ if [ $# != 1 ] || [ ! -x "$1" ]; then
 fi
 program=$(realpath "$1")
 cd "$(dirname "$0")/.."
+export PYTHONDONTWRITEBYTECODE=1
 work=$(mktemp -d)
 trap 'rm -rf "$work"' EXIT
 
@@ -98,6 +99,15 @@ trace serial_echo run examples/serial_echo/system.toml --ticks 2500
 trace transmit flat examples/transmit/transmit.bin 1600
 trace round_robin run examples/round_robin/system.toml --ticks 4000
 trace timer run examples/timer/system.toml --ticks 90000 --hardware
+trace threads run examples/threads/system.toml --ticks 6000
+trace control_loop run examples/control_loop/system.toml --ticks 26000
+
+# A module whose lines say nothing of the guest below it: beside another kernel the real-time lines are the same.
+sed 's#examples/threads/kernel/image.elf#examples/first_steps/image.elf#' examples/threads/system.toml > "$work/other.toml"
+ends 0 run "$work/other.toml" --ticks 6000
+! cmp -s "$work/output" examples/threads/expected || fail "another kernel under the threads has the same lines"
+cmp <(grep '^R ' "$work/output") <(grep '^R ' examples/threads/expected) || fail "the real-time lines of the threads differ beside another kernel"
+pass "the real-time lines of the threads are the same beside another kernel"
 
 # Words and files that are refused, files that can't be read, and a breach: the status, and all that is written.
 answers() {
@@ -121,6 +131,13 @@ overlapping() {
     printf '\xeb\xfe\xeb\xfe'
 }
 
+# A module whose init, at 11000h, divides by EAX, which is 0: its number.
+faulting() {
+    printf '\x7fELF\1\1\1\0\0\0\0\0\0\0\0\0\2\0\3\0\1\0\0\0\0\x10\1\0\x34\0\0\0\0\0\0\0\0\0\0\0\x34\0\x20\0\1\0\0\0\0\0\0\0'
+    printf '\1\0\0\0\x54\0\0\0\0\x10\1\0\0\x10\1\0\2\0\0\0\2\0\0\0\5\0\0\0\1\0\0\0'
+    printf '\xf7\xf0'
+}
+
 mkdir "$work/files"
 (
     cd "$work/files"
@@ -133,6 +150,10 @@ mkdir "$work/files"
     { system image.elf; echo 'script = "missing.script"'; } > no_script.toml
     { system image.elf; echo 'script = "line_four"'; } > bad_script.toml
     { system image.elf; echo 'modules = ["module.o"]'; } > module.toml
+    { system image.elf 1048576; echo 'modules = ["module.elf"]'; } > module_below.toml
+    { system image.elf; echo 'modules = ["module.elf", "second.elf"]'; } > modules_overlap.toml
+    { system image.elf; echo 'modules = ["fault.elf"]'; } > fault.toml
+    faulting > fault.elf
     printf '# a line that no script has\n5 line 4\n' > line_four
     echo 'version =' > no_document.toml
     printf '\xfa' > cli.bin
@@ -140,7 +161,8 @@ mkdir "$work/files"
     truncate -s 65537 large.bin
     truncate -s 33554433 huge.bin
 )
-cp examples/first.bin examples/first_steps/image.elf "$work/files"
+cp examples/first.bin examples/first_steps/image.elf examples/threads/module.elf "$work/files"
+cp examples/threads/module.elf "$work/files/second.elf"
 cd "$work/files"
 answers 5 "E usage"
 answers 5 "E usage" --help
@@ -156,6 +178,8 @@ answers 2 "E read missing.script" run no_script.toml --ticks 5
 answers 1 "E 10 no_document.toml" run no_document.toml --ticks 5
 answers 1 "E 11 no_page.toml" run no_page.toml --ticks 5
 answers 2 "E read module.o" run module.toml --ticks 5
+answers 1 "E 21 module.elf" run module_below.toml --ticks 5
+answers 1 "E 22 second.elf" run modules_overlap.toml --ticks 5
 answers 1 "E 20.1 first.bin" run no_elf.toml --ticks 5
 answers 1 "E 22 overlapping.elf" run overlapping.toml --ticks 5
 answers 1 "E 30 line_four 2" run bad_script.toml --ticks 5
@@ -163,6 +187,10 @@ answers 1 "E 21 large.bin" flat large.bin 5
 answers 1 "E 12 huge.bin" flat huge.bin 5
 answers 3 "G 1 breach cli
 G 5 end stopped 00000000 00000002 00000000 00000000 00000000 00000000 00010000 00000000 00000000 00000000" flat cli.bin 5
+ends 4 run fault.toml --ticks 5
+same "a module that divides by zero" "$(head -n 3 "$work/output")" "R 1 on init 0
+R 1 fault init 0 divide
+R 2 on guest"
 ends 0 flat largest.bin 5
 pass "an image of 65536 bytes is taken"
 ends 7 flat $'\xff' 5

@@ -8,7 +8,11 @@ or an entry takes one, and the numbers of instructions were counted in the disas
 """
 import hashlib
 import pathlib
+import struct
 import sys
+
+import schedule_model
+from schedule_model import Forever, Gate, Return, Units
 
 HERE = pathlib.Path(__file__).parent
 SIDE = 65536
@@ -272,9 +276,203 @@ def timer(trace):
     equal("the end", trace.registers(), ("halted", [0x1007, 0x202, 62 << 8 | 61, SIDE, 61, 0, SIDE, 0, 0, 0]))
 
 
+def symbols_of(path):
+    """The names of an ELF file for 32 bits, with their addresses and sizes."""
+    file = (HERE / path).read_bytes()
+    place, = struct.unpack_from("<I", file, 32)
+    size, count = struct.unpack_from("<HH", file, 46)
+    sections = [struct.unpack_from("<10I", file, place + size * at) for at in range(count)]
+    [table] = [section for section in sections if section[1] == 2]
+    texts = sections[table[6]][4]
+    names = {}
+    for at in range(table[4], table[4] + table[5], 16):
+        name, value, length = struct.unpack_from("<3I", file, at)
+        names[file[texts + name:file.index(0, texts + name)].decode()] = (value, length)
+    return names
+
+
+class ThreadsModule:
+    """What `threads/threads.c` does. The numbers of units were counted in the disassembly; WORK is the loop of so many units."""
+
+    START, FAST_PERIOD, FAST_WORK, MIDDLE_PERIOD, MIDDLE_WORK, SLOW_PERIOD, SLOW_WORK = 1000, 400, 20, 800, 100, 1600, 800
+    SLEEP, SLEEPS, STUCK_START, STUCK_PERIOD, GOOD_TURNS = 700, 3, 1300, 600, 2
+
+    def __init__(self):
+        self.places = symbols_of("threads/module.symbols")
+        self.beats = 0
+
+    def place(self, name):
+        return self.places[name][0]
+
+    def entries(self):
+        return {self.place("periodic"): self.periodic, self.place("slow"): self.slow, self.place("sleeper"): self.sleeper,
+                self.place("stuck"): self.stuck}
+
+    def say(self, units, text):
+        return Gate(units, schedule_model.PRINT, (self.place(f"{text}_text"), len(text)), text.encode())
+
+    def periodic(self, work):
+        begins = 3 + 1
+        while True:
+            yield Gate(begins + work + 2, schedule_model.WAIT)
+            begins = 2
+
+    def slow(self, watched):
+        seen, watching, begins = None, True, 11 + 1
+        while True:
+            yield Units(begins + self.SLOW_WORK + 2)
+            if watching:
+                yield Units(3)
+            if watching and self.beats == seen:
+                yield Gate(3, schedule_model.DELETE, (watched,))
+                yield self.say(4, "stuck")
+                yield Units(2)
+                watching = False
+            seen = self.beats
+            yield Gate(3, schedule_model.WAIT)
+            begins = 1
+
+    def sleeper(self, sleeps):
+        begins = 8
+        for _ in range(sleeps):
+            yield Gate(begins + 3, schedule_model.NANOSLEEP, (self.SLEEP,))
+            yield self.say(4, "awake")
+            begins = 3
+        yield Return(3 + 3 + 2)
+
+    def stuck(self, good_turns):
+        begins = 3
+        for _ in range(good_turns):
+            yield Units(begins + 2 + 3)
+            self.beats += 1
+            yield Gate(2, schedule_model.WAIT)
+            begins = 1
+        yield Forever()
+
+    def init(self):
+        created = {}
+        for units, name, entry, priority, argument in (
+                (12, "fast", "periodic", 40, self.FAST_WORK), (6, "middle", "periodic", 30, self.MIDDLE_WORK),
+                (8, "stuck", "stuck", 10, self.GOOD_TURNS), (7, "slow", "slow", 20, None), (7, "sleeper", "sleeper", 35, self.SLEEPS)):
+            stack_top = sum(self.places[f"{name}_stack"])
+            argument = created["stuck"] if argument is None else argument
+            created[name] = yield Gate(units, schedule_model.CREATE, (self.place(entry), priority, stack_top, argument))
+        for units, name, start, period in ((6, "fast", self.START, self.FAST_PERIOD), (4, "middle", self.START, self.MIDDLE_PERIOD),
+                                           (4, "slow", self.START, self.SLOW_PERIOD), (5, "stuck", self.STUCK_START, self.STUCK_PERIOD)):
+            yield Gate(units, schedule_model.MAKE_PERIODIC, (created[name], start, period))
+        yield Return(7)
+
+
+def threads(trace):
+    ticks, period = 6000, 500
+    module = ThreadsModule()
+    model = schedule_model.Model(module.init(), module.entries())
+    for tick in range(1, ticks + 1):
+        model.tick(tick)
+    got = [(tick, schedule_model.used(words)) for letter, tick, words in trace.lines if letter == "R"]
+    equal("the last line of the real-time side", got.pop()[1][0], "memory")
+    equal("the end of the real-time side", got.pop(), (ticks, ["end", str(len(model.threads)), str(len(model.ready))]))
+    for line, wanted in zip(got, model.lines):
+        equal("a line of the real-time side", line, wanted)
+    equal("how many lines the real-time side has", len(got), len(model.lines))
+    # Thread 0 never waits for another thread: a release each period, and a turn of 24 ticks.
+    releases = [tick for tick, words in trace.of("R", "release") if words == ["0"]]
+    equal("the releases of the fast thread", releases, list(range(module.START, ticks, module.FAST_PERIOD)))
+    turns = [tick for tick, words in trace.of("R", "on") if words == ["thread", "0"]]
+    equal("its turns", turns, releases)
+    # The thread that was deleted is in no later line.
+    [(deleted, words)] = [(tick, words) for tick, words in trace.of("R", "gate") if words[0] == "3"]
+    later = [words for letter, tick, words in trace.lines if letter == "R" and tick > deleted]
+    gone = str(int(words[1], 16))
+    equal("later lines of the deleted thread", [words for words in later if words in (["release", gone], ["on", "thread", gone])], [])
+    # The guest sets its timer in its 42nd unit and halts in its 44th. An entry is in its first tick from the due on, and dues that have come
+    # before it are one mark. The byte is written 20 of its ticks later, and it halts 29 later.
+    mine = model.guest_ticks
+    started, entries, written, halts, at = mine[41], [], [], [mine[43]], 44
+    due = started + period
+    while True:
+        at = next((at for at in range(at, len(mine)) if mine[at] >= due), None)
+        if at is None:
+            break
+        entries.append(mine[at])
+        written.append(mine[at + 20])
+        halts.append(mine[at + 29])
+        due += period * ((mine[at] - due) // period + 1)
+        at += 30
+    equal("the entries", trace.entries(), [(tick, TIMER) for tick in entries])
+    equal("the halts", trace.halts(), halts)
+    # COM1 sends while threads are on.
+    text, left = trace.sent()
+    equal("the text", text, b"".join(b"%d" % count for count in range(1, len(entries) + 1)))
+    equal("the ticks of the bytes", left, [tick + WRITE_TO_LEAVE for tick in written])
+    trace.only("G", ["com1", "enter", "halt", "end", "memory"])
+    # EIP is behind the halt, EFLAGS has the flag and else that of the last test, EAX is the answer for the timer, and the stack is that of main.
+    equal("the end", trace.registers(), ("halted", [0x1075, 0x246, 0, 256, 0, period, SIDE - 32, SIDE - 24, 0, 0]))
+
+
+RECORDS, SET_POINTS, RECORD = 0, 1, 16
+
+
+def control_loop(trace):
+    ticks, first, turn, turns_a_log, changes = 26000, 400, 500, 4, {1: 500, 4: 700, 10: 200}
+    # What the host computed from the same C, a turn in each line: its number, the set point, what is measured, the output.
+    records = [tuple(int(word) for word in line.split()) for line in (HERE / "control_loop/results").read_text().splitlines()]
+    logs = len(records) // turns_a_log
+    turns = list(range(first, ticks + 1, turn))
+    equal("the releases", trace.of("R", "release"), [(tick, ["0"]) for tick in turns])
+    equal("the lines `on`", schedule_model.follow([(tick, words) for letter, tick, words in trace.lines if letter == "R"]), "")
+    gates = trace.of("R", "gate")
+    places = symbols_of("control_loop/module.symbols")
+    wanted = [(11, RECORDS, 16 * RECORD, 0), (11, SET_POINTS, 16, 0), (16, SET_POINTS, places["on_set_point"][0], 0),
+              (18, 9, places["on_load"][0], 0), (2, places["controller"][0], 10, sum(places["controller_stack"]), 0, 0), (6, 0, first, turn, 0)]
+    [(returned, _), *_] = trace.of("R", "ret")
+    begun = [schedule_model.used(["gate", *words])[1:] for tick, words in gates if tick < returned]
+    equal("the gates of the init", begun, [[str(function), *(f"{word:08x}" for word in words), str(result)] for function, *words, result in wanted])
+    waits = [(tick, words[-1]) for tick, words in gates if words[0] == "7"]
+    equal("a wait behind each put", waits, [(tick + 2, "0") for tick, words in gates if words[0] == "13"])
+    puts = [(tick, words) for tick, words in gates if words[0] == "13"]
+    equal("a put of a record in each turn", [sum(begins < tick < begins + turn for tick, _ in puts) for begins in turns], [1] * len(turns))
+    equal("each record fits", {(words[1], words[3], words[-1]) for _, words in puts}, {(f"{RECORDS:08x}", f"{RECORD:08x}", str(RECORD))})
+    # A log follows four turns: the kernel gets their records, sends the set point that comes into force behind them, and writes the last.
+    entries = [tick for tick, _ in trace.entries()]
+    equal("the entries", trace.entries(), [(entries[0] + turns_a_log * turn * log, TIMER) for log in range(logs)])
+    equal("the timer is set soon", turns_a_log * turn < entries[0] <= turns_a_log * turn + 200, True)
+    gets = trace.of("G", "get")
+    equal("the gets", [words for _, words in gets], [[str(RECORDS), str(turns_a_log * 4 * RECORD)]] * logs)
+    for log, (tick, _) in enumerate(gets, 1):
+        equal(f"the get of log {log} is between its turns", turns[log * turns_a_log - 1] < tick < turns[log * turns_a_log], True)
+    replies = dict(trace.of("R", "reply"))
+    got = bytes.fromhex("".join(replies[tick][1] for tick, _ in gets))
+    equal("the replies", [replies[tick][0] for tick, _ in gets], [str(turns_a_log * RECORD)] * logs)
+    equal("the records", list(struct.iter_unpack("<4i", got)), records)
+    sent = trace.of("G", "put")
+    equal("the set points", [words for _, words in sent], [[str(SET_POINTS), struct.pack("<i", point).hex()] for point in changes.values()])
+    for log, (tick, _) in zip(changes, sent):
+        equal(f"the set point of log {log} is between its turns", gets[log - 1][0] < tick < turns[log * turns_a_log], True)
+        equal("its reply", replies.pop(tick), ["4", "-"])
+    equal("the replies are those", sorted(replies), [tick for tick, _ in gets])
+    # A put of the guest starts the handler in the next tick, and so does line 9 in its own. Each returns to the guest.
+    script = [line.split() for line in (HERE / "control_loop/script").read_text().splitlines() if not line.startswith("#")]
+    starts = [(tick + 1, ["fifo", str(SET_POINTS)]) for tick, _ in sent] + [(int(tick), ["irq", line]) for tick, _, line in script]
+    begun = trace.of("R", "on")
+    equal("the handlers", [line for line in begun if line[1][0] in ("fifo", "irq")], sorted(starts))
+    equal("the returns", len(trace.of("R", "ret")), 1 + len(starts))
+    for tick, words in starts:
+        behind = next(line for line in begun if line[0] > tick)
+        equal(f"what is on behind the handler of tick {tick}", behind[1], ["guest"])
+    taken = [(words[1], words[-1]) for _, words in gates if words[0] == "14"]
+    equal("what the handler takes, until there is no more", taken, [(f"{SET_POINTS:08x}", "4"), (f"{SET_POINTS:08x}", "0")] * len(sent))
+    text, _ = trace.sent()
+    last_of_logs = records[turns_a_log - 1::turns_a_log]
+    equal("the text", text.decode(), "".join("".join(f"{number:5}" for number in record) + "\n" for record in last_of_logs))
+    equal("the end", trace.of("R", "end"), [(ticks, ["1", "0"])])
+    trace.only("R", ["on", "gate", "ret", "release", "reply", "end", "memory"])
+    trace.only("G", ["com1", "enter", "halt", "put", "get", "end", "memory"])
+
+
 if __name__ == "__main__":
     checks = {check.__name__: check for check in
-              (interrupts, first_steps, shadow_and_halt, serial_echo, transmit, round_robin, timer)}
+              (interrupts, first_steps, shadow_and_halt, serial_echo, transmit, round_robin, timer, threads, control_loop)}
     if len(sys.argv) != 2 or sys.argv[1] not in checks:
         sys.exit(f"usage: check_trace.py {'|'.join(checks)} < TRACE")
     checks[sys.argv[1]](Trace(sys.stdin.read()))

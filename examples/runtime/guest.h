@@ -3,6 +3,7 @@
 #define GUEST_H
 
 #include "gates.h"
+#include "ports.h"
 
 /* The soft flag. */
 
@@ -62,6 +63,23 @@ static inline unsigned time(void) {
     return tick;
 }
 
+/* Puts `count` bytes, at most 256, into a FIFO that a module has made: all of them or none. The answer is how many; -22 for more than 256 bytes,
+   else -19 where there is no such FIFO, else -28 where they don't all fit. A byte outside the guest's side is a breach. It calls the
+   module's handler of that FIFO, if there is one. */
+static inline int fifo_put(unsigned fifo, const void *place, unsigned count) {
+    int result;
+    __asm__ volatile("int %1" : "=a"(result) : "i"(GATE_CALL), "0"(CALL_FIFO_PUT), "b"(fifo), "c"(place), "d"(count) : "memory");
+    return result;
+}
+
+/* Gets the first bytes of a FIFO, at most `count`, which is at most 256: as many as there are. The answer is how many, or as of fifo_put. It
+   calls the handler where it got some. */
+static inline int fifo_get(unsigned fifo, void *place, unsigned count) {
+    int result;
+    __asm__ volatile("int %1" : "=a"(result) : "i"(GATE_CALL), "0"(CALL_FIFO_GET), "b"(fifo), "c"(place), "d"(count) : "memory");
+    return result;
+}
+
 /* An entry of the table of descriptors, by the 80386 manual. */
 struct descriptor {
     unsigned short offset_low;
@@ -90,18 +108,6 @@ static inline int load_idt(const struct descriptor *place, unsigned entries) {
     int result;
     __asm__ volatile("int %1" : "=a"(result) : "i"(GATE_CALL), "0"(CALL_LOAD_IDT), "b"(place), "c"(entries) : "memory");
     return result;
-}
-
-/* Ports. */
-
-static inline unsigned char inb(unsigned short port) {
-    unsigned char value;
-    __asm__ volatile("inb %1, %0" : "=a"(value) : "Nd"(port) : "memory");
-    return value;
-}
-
-static inline void outb(unsigned short port, unsigned char value) {
-    __asm__ volatile("outb %0, %1" : : "a"(value), "Nd"(port) : "memory");
 }
 
 /* Handlers, of entries.S and handlers.c. Lines 0 to 31 have the vectors 32 to 63. */

@@ -17,7 +17,7 @@ TOP = os.path.realpath(os.path.join(os.path.dirname(__file__), "..", ".."))
 TOOLS = ["explain", "steps", "annotate", "schedule_picture", "trace_vcd", "script_recipes"]
 TRACES = ["examples/first_steps/expected", "examples/shadow_and_halt/expected", "examples/serial_echo/expected",
           "examples/round_robin/expected", "examples/timer/expected", "examples/transmit/expected", "examples/interrupts/expected",
-          "tools/tests/real_time.trace"]
+          "examples/threads/expected", "examples/control_loop/expected", "tools/tests/real_time.trace"]
 HARDWARE = "examples/timer/expected"
 SVG = "{http://www.w3.org/2000/svg}"
 WITHOUT_A_MARK = ("on", "halt", "end", "memory", "reply")
@@ -160,7 +160,7 @@ def check_steps(program: str) -> None:
     has(tool("steps", program, system, "--until", "com1 48", "--before", "2"), "G 46 com1 48", "steps --until")
     has(tool("steps", program, system, "--until-eip", "1009"), "       2 00001009", "steps --until-eip")
     if shutil.which("nm") and shutil.which("addr2line") and shutil.which("objdump"):
-        has(output, "main+1ch examples/runtime/guest.h:104", "steps")
+        has(output, "main+1ch examples/runtime/ports.h:12", "steps")
         has(output, "out %al,(%dx)", "steps")
         has(tool("steps", program, system, "--until-eip", "main"), "       2 00001009 main", "steps --until-eip")
     passed("steps shows first_steps as its page does")

@@ -96,7 +96,7 @@ MISTAKES = [
     Mistake("the instruction cli", {"system.toml": SYSTEM, "guest.c": guest('    __asm__ volatile("cli");\n')}, built,
             annotated(300), ["breach cli", "guest.c:3", "the gate INT F0h: cli()"]),
     Mistake("an end of interrupt that nobody awaits", {"system.toml": SYSTEM, "guest.c": guest("    outb(0x20, 0x20);\n")}, built,
-            annotated(300), ["breach port 0020", "guest.h:", "the interrupt controllers", "no end of interrupt is written"]),
+            annotated(300), ["breach port 0020", "ports.h:", "the interrupt controllers", "no end of interrupt is written"]),
     Mistake("an index past the end",
             {"system.toml": SYSTEM, "guest.c": guest("    for (volatile int i = 0;; i++) {\n        many[i] = i;\n    }\n",
                                                      "static volatile int many[15000];\n")}, built,

@@ -1,0 +1,44 @@
+/* A control loop: a thread takes a turn each 500 ticks and tells the guest what it has done; the guest sends set points, and line 9 says that the
+   plant's load comes or goes. */
+#include "control.h"
+#include "module.h"
+
+enum { LOAD_LINE = 9, PRIORITY = 10, RECORDS_SIZE = 16 * sizeof(struct record), SET_POINTS_SIZE = 16 };
+
+STACK(controller_stack, 512);
+
+static struct loop loop;
+
+/* Where the guest doesn't take the records, those that don't fit are lost, and the loop goes on. */
+static ENTRY void controller(unsigned argument) {
+    (void)argument;
+    for (;;) {
+        struct record record;
+        take_turn(&loop, &record);
+        rtf_put(RECORDS, &record, sizeof record);
+        pthread_wait_np();
+    }
+}
+
+/* The guest has put something: the last of the set points counts. */
+static ENTRY void on_set_point(unsigned fifo) {
+    int set_point;
+    while (rtf_get(fifo, &set_point, sizeof set_point) == sizeof set_point) {
+        loop.set_point = set_point;
+    }
+}
+
+static ENTRY void on_load(unsigned line) {
+    (void)line;
+    change_load(&loop);
+}
+
+ENTRY void init(unsigned module) {
+    (void)module;
+    rtf_create(RECORDS, RECORDS_SIZE);
+    rtf_create(SET_POINTS, SET_POINTS_SIZE);
+    rtf_create_handler(SET_POINTS, on_set_point);
+    rtl_request_irq(LOAD_LINE, on_load);
+    int thread = pthread_create(controller, PRIORITY, STACK_TOP(controller_stack), 0);
+    pthread_make_periodic_np(thread, FIRST_TURN, TURN);
+}
