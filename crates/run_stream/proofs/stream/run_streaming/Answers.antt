@@ -1,8 +1,6 @@
 use Rattle.std.proofs.Common.{◌≡◌, [], ◌++◌, refl, ap, sym, ◌∙◌, subst, arith}
-use Rattle.std.specs.Prelude.{◌||◌}
-use Rattle.std.specs.List.{list_any}
 use Rattle.std.proofs.lemmas.List.{append-nil}
-use Rattle.run_stream.specs.Lines.{shown_to, text_of, fault_shown, is_breach}
+use Rattle.run_stream.specs.Lines.{shown_to, text_of}
 use Rattle.run_stream.proofs.Written.{fault_part}
 use Rattle.run_stream.proofs.Streams.{told_first, told_next, shown_same, whole_at, whole_end, ends_same, told_end, breach_first, breach_next, breach_end, fault_first, fault_next, fault_end}
 use Rattle.run_stream.proofs.Ran.{lines_said, ran_next, stands_after, ticked_of}
