@@ -69,6 +69,10 @@ same "compute" "${words[6]} ${words[7]} ${words[8]} ${words[9]} ${words[12]} ${w
 # The whole trace is the one that is kept, and it has what the source, the script and the definitions say.
 trace() {
     kept "examples/$1/expected" "${@:2}"
+    told "$1"
+}
+
+told() {
     if command -v python3 > /dev/null; then
         python3 examples/check_trace.py "$1" < "$work/output" || fail "the trace of $1 isn't what its source says"
         pass "the trace of $1 is what its source says"
@@ -82,7 +86,7 @@ shown() {
     local lines other
     lines=$(sed -nE 's/^    ([RGH] [0-9]+ )/\1/p' "$1")
     [ -n "$lines" ] || fail "$1 shows no line of a trace"
-    other=$(grep -vxFf "examples/$2/expected" <<< "$lines") || true
+    other=$(grep -vxFf <(cat "examples/$2/expected"*) <<< "$lines") || true
     [ -z "$other" ] || fail "$1 shows a line that isn't in examples/$2/expected: $other"
     pass "the lines that $1 shows are as kept"
 }
@@ -101,6 +105,12 @@ trace round_robin run examples/round_robin/system.toml --ticks 4000
 trace timer run examples/timer/system.toml --ticks 90000 --hardware
 trace threads run examples/threads/system.toml --ticks 6000
 trace control_loop run examples/control_loop/system.toml --ticks 26000
+
+# One module, and a system file for each version of the rule that picks among equal priorities.
+for version in 1 2; do
+    kept "examples/versions/expected_$version" run "examples/versions/system_$version.toml" --ticks 1000
+    told "versions_$version"
+done
 
 # A module whose lines say nothing of the guest below it: beside another kernel the real-time lines are the same.
 sed 's#examples/threads/kernel/image.elf#examples/first_steps/image.elf#' examples/threads/system.toml > "$work/other.toml"
@@ -145,6 +155,7 @@ mkdir "$work/files"
     system first.bin > no_elf.toml
     system image.elf > image.toml
     system image.elf 65537 > no_page.toml
+    system image.elf | sed 's/version = 1/version = 3/' > no_version.toml
     system overlapping.elf > overlapping.toml
     overlapping > overlapping.elf
     { system image.elf; echo 'script = "missing.script"'; } > no_script.toml
@@ -177,6 +188,7 @@ answers 2 "E read missing.elf" run no_image.toml --ticks 5
 answers 2 "E read missing.script" run no_script.toml --ticks 5
 answers 1 "E 10 no_document.toml" run no_document.toml --ticks 5
 answers 1 "E 11 no_page.toml" run no_page.toml --ticks 5
+answers 1 "E 11 no_version.toml" run no_version.toml --ticks 5
 answers 2 "E read module.o" run module.toml --ticks 5
 answers 1 "E 21 module.elf" run module_below.toml --ticks 5
 answers 1 "E 22 second.elf" run modules_overlap.toml --ticks 5

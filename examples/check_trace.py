@@ -410,6 +410,70 @@ def threads(trace):
     equal("the end", trace.registers(), ("halted", [0x1075, 0x246, 0, 256, 0, period, SIDE - 32, SIDE - 24, 0, 0]))
 
 
+class VersionsModule:
+    """What versions.c does: the loops and numbers of its source, and the units between its gates, counted in the disassembly."""
+    PRIORITY = 10
+    SAMPLER_START, SAMPLER_PERIOD, FIRST_WORK, SAMPLER_WORK = 200, 100, 220, 20
+    REPORTER_START, REPORTER_PERIOD, REPORTER_WORK = 350, 400, 60
+
+    def __init__(self):
+        self.symbols = symbols_of("versions/module.symbols")
+
+    def entries(self):
+        return {self.symbols["sampler"][0]: self.sampler, self.symbols["reporter"][0]: self.reporter}
+
+    def sampler(self, work):
+        yield Gate(6 + work, schedule_model.WAIT)
+        while True:
+            yield Gate(4 + self.SAMPLER_WORK, schedule_model.WAIT)
+
+    def reporter(self, work):
+        yield Gate(6 + work, schedule_model.WAIT)
+        while True:
+            yield Gate(4 + work, schedule_model.WAIT)
+
+    def init(self):
+        created = []
+        for units, name, work in ((11, "sampler", self.FIRST_WORK), (6, "reporter", self.REPORTER_WORK)):
+            top = sum(self.symbols[f"{name}_stack"])
+            created.append((yield Gate(units, schedule_model.CREATE, (self.symbols[name][0], self.PRIORITY, top, work))))
+        yield Gate(7, schedule_model.MAKE_PERIODIC, (created[0], self.SAMPLER_START, self.SAMPLER_PERIOD))
+        yield Gate(5, schedule_model.MAKE_PERIODIC, (created[1], self.REPORTER_START, self.REPORTER_PERIOD))
+        yield Return(6)
+
+
+def versions(trace, version):
+    ticks = 1000
+    module = VersionsModule()
+    model = schedule_model.Model(module.init(), module.entries(), version)
+    for tick in range(1, ticks + 1):
+        model.tick(tick)
+    lines = [(tick, words) for letter, tick, words in trace.lines if letter == "R"]
+    got = [(tick, schedule_model.used(words)) for tick, words in lines]
+    equal("the last line of the real-time side", got.pop()[1][0], "memory")
+    equal("the end of the real-time side", got.pop(), (ticks, ["end", "2", str(len(model.ready))]))
+    equal("the lines of the real-time side", got, model.lines)
+    equal("the lines `on`", schedule_model.follow(lines, version), "")
+    # Another version is told by them: it would put on the other thread in the tick behind the sampler's first turn.
+    behind = module.SAMPLER_START + 6 + module.FIRST_WORK
+    told = schedule_model.follow(lines, 3 - version)
+    equal("where the other version differs", f"in {behind}," in told, True)
+    # The guest calls main, clears EAX, and adds 1 in every other tick of its own.
+    trace.only("G", ["end", "memory"])
+    counted = (len(model.guest_ticks) - 1) // 2
+    mode, registers = trace.registers()
+    equal("the mode", mode, "runs")
+    equal("what the guest has counted", registers[2], counted)
+
+
+def versions_1(trace):
+    versions(trace, 1)
+
+
+def versions_2(trace):
+    versions(trace, 2)
+
+
 RECORDS, SET_POINTS, RECORD = 0, 1, 16
 
 
@@ -472,7 +536,7 @@ def control_loop(trace):
 
 if __name__ == "__main__":
     checks = {check.__name__: check for check in
-              (interrupts, first_steps, shadow_and_halt, serial_echo, transmit, round_robin, timer, threads, control_loop)}
+              (interrupts, first_steps, shadow_and_halt, serial_echo, transmit, round_robin, timer, threads, versions_1, versions_2, control_loop)}
     if len(sys.argv) != 2 or sys.argv[1] not in checks:
         sys.exit(f"usage: check_trace.py {'|'.join(checks)} < TRACE")
     checks[sys.argv[1]](Trace(sys.stdin.read()))

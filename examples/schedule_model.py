@@ -40,6 +40,7 @@ class Thread:
         self.due: Optional[int] = None          # while it waits
         self.period = 0
         self.next = 0
+        self.since = 0                          # while it is ready: its due, where that released it, or the tick in which it was made
 
 
 class Work:
@@ -65,9 +66,11 @@ class Work:
 
 
 class Model:
-    """The run of a module without lines and FIFOs. `entries` says by address what a new thread does: it is called with its argument."""
+    """The run of a module without lines and FIFOs, in a version of the rule that picks among equal priorities. `entries` says by address what a
+    new thread does: it is called with its argument."""
 
-    def __init__(self, init, entries):
+    def __init__(self, init, entries, version=1):
+        self.version = version
         self.init = Work(init)
         self.entries = entries
         self.threads = {}
@@ -109,8 +112,9 @@ class Model:
 
     def release(self, tick):
         due = sorted((thread.due, number) for number, thread in self.threads.items() if thread.due is not None and thread.due <= tick)
-        for _, number in due:
+        for came, number in due:
             self.threads[number].due = None
+            self.threads[number].since = came
             self.ready.append(number)
             self.line(tick, "release", number)
 
@@ -119,8 +123,7 @@ class Model:
             return INIT
         if not self.ready:
             return GUEST
-        # The first that came among those of the greatest priority: `max` answers the first of equals.
-        return f"thread {max(self.ready, key=lambda number: self.threads[number].priority)}"
+        return f"thread {first(self.version, self.ready, lambda number: self.threads[number].priority, lambda number: self.threads[number].since)}"
 
     def remove(self, number):
         del self.threads[number]
@@ -138,6 +141,7 @@ class Model:
             entry, priority, _, argument = gate.arguments
             result = next(number for number in range(64) if number not in self.threads)
             self.threads[result] = Thread(self.entries[entry](argument), priority)
+            self.threads[result].since = tick
             self.ready.append(result)
         elif gate.function == DELETE:
             self.remove(gate.arguments[0])
@@ -157,6 +161,12 @@ class Model:
         return result
 
 
+def first(version, ready, priority, since):
+    """Of the ready threads in order of arrival, the one that goes first: of those of the greatest priority the first that came; in version 2 the
+    one that is ready since the earliest tick, and of such the first that came. `max` answers the first of equals."""
+    return max(ready, key=priority if version == 1 else lambda number: (priority(number), -since(number)))
+
+
 def used(words):
     """The words of an R line, without the registers of a gate that its function doesn't read."""
     counts = {CREATE: 4, DELETE: 1, MAKE_PERIODIC: 3, WAIT: 0, NANOSLEEP: 1, PRINT: 2, FIFO_CREATE: 2, FIFO_PUT: 3, FIFO_GET: 3,
@@ -167,14 +177,18 @@ def used(words):
 
 
 class Holders:
-    """Reads real-time lines, and says where a line `on` isn't what the lines before it ask for: the ready thread of greatest priority that came
-    first, or the guest where none is ready, in each tick in which nothing else goes on; an init or a handler to its end. When a handler starts
-    isn't asked."""
+    """Reads real-time lines, and says where a line `on` isn't what the lines before it ask for: the ready thread that goes first by the version, or
+    the guest where none is ready, in each tick in which nothing else goes on; an init or a handler to its end. When a handler starts
+    isn't asked. A thread's due is that of gates 6, 7 and 23."""
 
-    def __init__(self):
+    def __init__(self, version=1):
+        self.version = version
         self.on = None
         self.ready = []
         self.priorities = {}
+        self.since = {}
+        self.next, self.periods = {}, {}
+        self.dues = {}
         self.last = 0
 
     def tick(self, tick, lines):
@@ -182,12 +196,14 @@ class Holders:
         if self.on is None and tick != self.last + 1:
             raise ValueError(f"nothing is on in {self.last + 1}")
         self.last = tick
-        self.ready += [int(words[1]) for words in lines if words[0] == "release"]
+        for words in lines:
+            if words[0] == "release":
+                self.arrive(int(words[1]), self.dues[int(words[1])])
         told = [" ".join(words[1:]) for words in lines if words[0] == "on"]
         holder = self.held(tick, told[0] if told else None)
         for words in lines:
             if words[0] == "gate":
-                self.gate(holder, int(words[1]), [int(word, 16) for word in words[2:6]], int(words[6]))
+                self.gate(tick, holder, int(words[1]), [int(word, 16) for word in words[2:6]], int(words[6]))
             elif words[0] in ("ret", "fault"):
                 self.remove(holder)
                 holder = None
@@ -205,30 +221,47 @@ class Holders:
         return told
 
     def wanted(self):
+        return self.wanted_by(self.version)
+
+    def wanted_by(self, version):
+        """Who is on by a version of the rule, if no handler starts."""
         if is_short(self.on):
             return self.on
         if not self.ready:
             return GUEST
-        return f"thread {max(self.ready, key=lambda number: self.priorities[number])}"
+        return f"thread {first(version, self.ready, self.priorities.get, self.since.get)}"
+
+    def arrive(self, number, since):
+        self.ready.append(number)
+        self.since[number] = since
 
     def remove(self, holder):
         if is_thread(holder) and number_of(holder) in self.ready:
             self.ready.remove(number_of(holder))
 
-    def gate(self, holder, function, registers, result):
+    def gate(self, tick, holder, function, registers, result):
         if result < 0:
             return
         if function == CREATE:
             self.priorities[result] = registers[1]
-            self.ready.append(result)
+            self.arrive(result, tick)
         elif function in (DELETE, SUSPEND, MAKE_PERIODIC):
             self.remove(f"thread {registers[0]}")
+            if function == MAKE_PERIODIC:
+                self.next[registers[0]], self.periods[registers[0]] = registers[1], registers[2]
+                self.dues[registers[0]] = registers[1]
         elif function == WAKEUP and registers[0] not in self.ready:
-            self.ready.append(registers[0])
+            self.arrive(registers[0], tick)
         elif function == SETPRIO:
             self.priorities[registers[0]] = registers[1]
-        elif function in (WAIT, NANOSLEEP):
+        elif function == WAIT:
             self.remove(holder)
+            number = number_of(holder)
+            self.next[number] += self.periods[number]
+            self.dues[number] = self.next[number]
+        elif function == NANOSLEEP:
+            self.remove(holder)
+            self.dues[number_of(holder)] = tick + registers[0]
 
 
 def is_thread(holder):
@@ -244,9 +277,9 @@ def is_short(holder):
     return holder is not None and holder.split()[0] in ("init", "irq", "fifo")
 
 
-def follow(lines):
+def follow(lines, version=1):
     """Reads all real-time lines of a run, as ticks with words, by Holders. The answer is what is wrong, or nothing."""
-    holders = Holders()
+    holders = Holders(version)
     try:
         for tick, group in itertools.groupby(lines, key=lambda line: line[0]):
             holders.tick(tick, [words for _, words in group])

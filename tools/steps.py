@@ -132,7 +132,7 @@ def with_breach(run: Run, guest: Guest, place: int, folder: str) -> Run:
 def copied_system(system: str, image: str, folder: str) -> str:
     """A system file with another image."""
     fields, _ = read_system(system)
-    lines = ["version = 1", f"image = {json.dumps(image)}", f"guest_memory = {fields.guest_memory}",
+    lines = [f"version = {fields.version}", f"image = {json.dumps(image)}", f"guest_memory = {fields.guest_memory}",
              f"real_time_memory = {fields.real_time_memory}"]
     if fields.script is not None:
         lines.append(f"script = {json.dumps(fields.script, ensure_ascii=False)}")

@@ -9,6 +9,7 @@ from .toml_document import Field, Moment, TomlError, read_document
 
 LEAST, PAGE = 65_536, 4_096
 MOST = {"guest_memory": 16_777_216, "real_time_memory": 4_194_304}
+VERSIONS = (1, 2)
 REQUIRED = ["version", "image", "guest_memory", "real_time_memory"]
 KNOWN = REQUIRED + ["modules", "script"]
 MODULES_LIMIT = 16
@@ -17,6 +18,7 @@ NAME_LIMIT = 255
 
 class System(NamedTuple):
     """The fields of a system file that the program takes."""
+    version: int
     image: str
     guest_memory: int
     real_time_memory: int
@@ -36,7 +38,7 @@ def read_system(name: str) -> Tuple[Optional[System], List[Mistake]]:
         return None, mistakes
     script = fields["script"].value if "script" in fields else None
     modules = fields["modules"].value if "modules" in fields else []
-    return System(fields["image"].value, fields["guest_memory"].value, fields["real_time_memory"].value, modules, script), []
+    return System(fields["version"].value, fields["image"].value, fields["guest_memory"].value, fields["real_time_memory"].value, modules, script), []
 
 
 def field_mistakes(fields: Dict[str, Field]) -> List[Tuple[int, str]]:
@@ -56,7 +58,7 @@ def nearest(name: str) -> str:
 
 def value_mistake(name: str, value: object) -> Optional[str]:
     if name == "version":
-        return None if is_whole(value) and value == 1 else f"`version` is {shown(value)}, and has to be the number 1"
+        return None if is_whole(value) and value in VERSIONS else f"`version` is {shown(value)}, and has to be the number 1 or 2"
     if name in MOST:
         return size_mistake(name, value)
     if name == "modules":

@@ -17,7 +17,8 @@ TOP = os.path.realpath(os.path.join(os.path.dirname(__file__), "..", ".."))
 TOOLS = ["explain", "steps", "annotate", "schedule_picture", "trace_vcd", "script_recipes"]
 TRACES = ["examples/first_steps/expected", "examples/shadow_and_halt/expected", "examples/serial_echo/expected",
           "examples/round_robin/expected", "examples/timer/expected", "examples/transmit/expected", "examples/interrupts/expected",
-          "examples/threads/expected", "examples/control_loop/expected", "tools/tests/real_time.trace"]
+          "examples/threads/expected", "examples/control_loop/expected", "examples/versions/expected_1", "examples/versions/expected_2",
+          "tools/tests/real_time.trace"]
 HARDWARE = "examples/timer/expected"
 SVG = "{http://www.w3.org/2000/svg}"
 WITHOUT_A_MARK = ("on", "halt", "end", "memory", "reply")

@@ -7,7 +7,7 @@ use std::alloc::Global;
 use std::test::Fail;
 
 const SYSTEM: &str =
-    "version = 1\nimage = 'k.bin'\nguest_memory = 65536\nreal_time_memory = 65536\nscript = 'd.txt'\n";
+    "version = 2\nimage = 'k.bin'\nguest_memory = 65536\nreal_time_memory = 65536\nscript = 'd.txt'\n";
 
 // The run that the words of a line ask for, over the files of one system.
 fn requested(alloc: Global, line: &str) -> Result<AcceptedRun, Fail> {
@@ -38,6 +38,7 @@ fn ample_memory_has_the_run(rt: HostRuntime) -> Result<(), Fail> {
     assert_eq!(rt; run.ticks, 13);
     assert_eq!(rt; run.shown, Shown::Both);
     assert_eq!(rt; run.sides.entry, 0x1234);
+    assert_eq!(rt; run.version, 2);
     assert_eq!(rt; run.script.events.len(), 1);
     Ok(())
 }

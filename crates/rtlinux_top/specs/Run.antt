@@ -13,6 +13,6 @@ flat_sides image = record {
   entry = 0;
 }
 
--- its run, without modules or a script, of which the guest's lines are shown
+-- its run, without modules or a script, in version 1 of the rule that picks, of which the guest's lines are shown
 abbrev pub flat_run : List ℕ → ℕ → AcceptedRun
-flat_run image ticks = record { sides = flat_sides image; inits = []; script = record { events = [] }; ticks = ticks; shown = Guest }
+flat_run image ticks = record { sides = flat_sides image; inits = []; version = 1; script = record { events = [] }; ticks = ticks; shown = Guest }

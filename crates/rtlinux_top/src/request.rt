@@ -32,6 +32,7 @@ fn accept_flat(alloc: Global, name: &[u8], image: &[u8], ticks: u32) -> Result<A
         Ok(sides) => Ok(AcceptedRun {
             sides,
             inits: Items::empty(alloc),
+            version: 1,
             script: no_script(alloc),
             ticks,
             shown: Shown::Guest,

@@ -5,7 +5,7 @@ use Rattle.std.proofs.lemmas.List.Elements.{All-nil, All-cons}
 use Rattle.std.proofs.lemmas.Bool.Decides.{nat_tests}
 use Rattle.toml.specs.Data.{Data, string, integer, float, boolean, datetime, array, table, Items, no_items, item, Members, get_member}
 use Rattle.system_file.specs.declared.system.System.{System}
-use Rattle.system_file.specs.Fields.{required, optional, size_of, is_size, name_of, names_in, names_of, version_of, fields_of, system_of, has_only_fields, ◌>>=◌}
+use Rattle.system_file.specs.Fields.{required, optional, is_version, size_of, is_size, name_of, names_in, names_of, version_of, fields_of, system_of, has_only_fields, ◌>>=◌}
 use Rattle.system_file.specs.Read.{document_of}
 use Rattle.run_files.specs.declared.cause.Refusal.{Refusal}
 use Rattle.outside_io.specs.Names.{is_name, IsName}
@@ -22,6 +22,16 @@ required_good P read (Some d) x good same = good d x same
 test : {A : Type 0} (b : Bool) (x y : A) → (if b then Some x else None) ≡ Some y → (b ≡ true) × (x ≡ y)
 test false x y same = absurd cc
 test true x y same = (refl, cc)
+
+version_good : (d : Data) (n : ℕ) → version_of d ≡ Some n → is_version n ≡ true
+version_good (integer (pos m)) n same = let got = test (is_version m) m n same in rw (← got.1) got.0
+version_good (integer (negsuc m)) n same = absurd cc
+version_good (string text) n same = absurd cc
+version_good (float x) n same = absurd cc
+version_good (boolean b) n same = absurd cc
+version_good (datetime x) n same = absurd cc
+version_good (array ds) n same = absurd cc
+version_good (table ms) n same = absurd cc
 
 size_good : (most : ℕ) (d : Data) (n : ℕ) → size_of most d ≡ Some n → (65536 ≤ n) × (n ≤ most)
 size_good most (integer (pos m)) n same = let got = test (is_size most m) m n same in (grind (arith, nat_tests), grind (arith, nat_tests))
@@ -120,18 +130,18 @@ chain v i g r m c = do
   Some (made version image guest real_time modules script)
 
 chain_keeps : (v : Option ℕ) (i : Option (List ℕ)) (g r : Option ℕ) (m : Option (List (List ℕ))) (c : Option (Option (List ℕ))) (s : System)
-    → ((x : List ℕ) → i ≡ Some x → IsName x) → ((n : ℕ) → g ≡ Some n → IsGuestSize n) → ((n : ℕ) → r ≡ Some n → IsRealTimeSize n)
+    → ((n : ℕ) → v ≡ Some n → is_version n ≡ true) → ((x : List ℕ) → i ≡ Some x → IsName x) → ((n : ℕ) → g ≡ Some n → IsGuestSize n) → ((n : ℕ) → r ≡ Some n → IsRealTimeSize n)
     → ((x : List (List ℕ)) → m ≡ Some x → IsNames x) → ((x : Option (List ℕ)) → c ≡ Some x → IfSome x IsName)
     → chain v i g r m c ≡ Some s → IsAccepted s
-chain_keeps None i g r m c s ik gk rk mk ck same = absurd cc
-chain_keeps (Some v) None g r m c s ik gk rk mk ck same = absurd cc
-chain_keeps (Some v) (Some i) None r m c s ik gk rk mk ck same = absurd cc
-chain_keeps (Some v) (Some i) (Some g) None m c s ik gk rk mk ck same = absurd cc
-chain_keeps (Some v) (Some i) (Some g) (Some r) None c s ik gk rk mk ck same = absurd cc
-chain_keeps (Some v) (Some i) (Some g) (Some r) (Some m) None s ik gk rk mk ck same = absurd cc
-chain_keeps (Some v) (Some i) (Some g) (Some r) (Some m) (Some c) s ik gk rk mk ck same =
+chain_keeps None i g r m c s vk ik gk rk mk ck same = absurd cc
+chain_keeps (Some v) None g r m c s vk ik gk rk mk ck same = absurd cc
+chain_keeps (Some v) (Some i) None r m c s vk ik gk rk mk ck same = absurd cc
+chain_keeps (Some v) (Some i) (Some g) None m c s vk ik gk rk mk ck same = absurd cc
+chain_keeps (Some v) (Some i) (Some g) (Some r) None c s vk ik gk rk mk ck same = absurd cc
+chain_keeps (Some v) (Some i) (Some g) (Some r) (Some m) None s vk ik gk rk mk ck same = absurd cc
+chain_keeps (Some v) (Some i) (Some g) (Some r) (Some m) (Some c) s vk ik gk rk mk ck same =
     let names = mk m refl in
-    whole v i g r m c s same (record { image = ik i refl; script = ck c refl; guest = gk g refl; real_time = rk r refl; modules = names.0; few = names.1 })
+    whole v i g r m c s same (record { version = vk v refl; image = ik i refl; script = ck c refl; guest = gk g refl; real_time = rk r refl; modules = names.0; few = names.1 })
 
 fields_keep : (ms : Members) (s : System) → fields_of ms ≡ Some s → IsAccepted s
 unfolding fields_of
@@ -143,6 +153,7 @@ fields_keep ms s same = chain_keeps
     (optional names_of [] (get_member (codes "modules") ms))
     (optional (λ d. option_map Some (name_of d)) None (get_member (codes "script") ms))
     s
+    (λ n is. required_good (λ (k : ℕ). is_version k ≡ true) version_of (get_member (codes "version") ms) n (λ d y h. version_good d y h) is)
     (λ x is. required_good IsName name_of (get_member (codes "image") ms) x (λ d y h. name_good d y h) is)
     (λ n is. required_good IsGuestSize (size_of 16777216) (get_member (codes "guest_memory") ms) n (λ d y h. size_good 16777216 d y h) is)
     (λ n is. required_good IsRealTimeSize (size_of 4194304) (get_member (codes "real_time_memory") ms) n (λ d y h. size_good 4194304 d y h) is)

@@ -1,9 +1,9 @@
 -- The files of a run: what the bytes of each make, or why they are refused.
-use Rattle.std.specs.Prelude.{◌≤◌, ◌^◌, ℕ, List, length, All, IfSome, Option, Some, None, Result, Ok, Err}
+use Rattle.std.specs.Prelude.{◌≡◌, ◌≤◌, ◌^◌, ℕ, true, List, length, All, IfSome, Option, Some, None, Result, Ok, Err}
 use Rattle.outside_io.specs.Names.{IsName}
 use Rattle.toml.specs.Data.{Members}
 use Rattle.system_file.specs.declared.system.System.{System}
-use Rattle.system_file.specs.Fields.{system_of}
+use Rattle.system_file.specs.Fields.{is_version, system_of}
 use Rattle.system_file.specs.Read.{document_of}
 use Rattle.elf_loader.specs.declared.image.Image.{Image}
 use Rattle.elf_loader.specs.File.{image_of}
@@ -38,6 +38,7 @@ system_in bytes = members_in (document_of bytes)
 
 -- what the fields of an accepted system keep
 pub record IsAccepted (system : System) : Type 0 where
+  pub version : is_version system.version ≡ true
   pub image : IsName system.image
   pub script : IfSome system.script IsName
   pub guest : (65536 ≤ system.guest_memory) × (system.guest_memory ≤ 16777216)

@@ -52,11 +52,11 @@ abbrev pub shown_by : Bool → Shown
 shown_by false = Both
 shown_by true = WithHardware
 
--- the script, and with it the run
-abbrev pub script_verdict : Option (List ℕ) → Loaded → ℕ → Shown → Files → Verdict
-script_verdict name loaded ticks shown files =
-    script_named files name
-    >>= λ script. Ok (record { sides = loaded.sides; inits = loaded.inits; script = script; ticks = ticks; shown = shown })
+-- the script, and with it the run, which has the version of the system
+abbrev pub script_verdict : System → Loaded → ℕ → Shown → Files → Verdict
+script_verdict system loaded ticks shown files =
+    script_named files system.script
+    >>= λ script. Ok (record { sides = loaded.sides; inits = loaded.inits; version = system.version; script = script; ticks = ticks; shown = shown })
 
 -- the modules of these names, each on what those before it left
 abbrev pub modules_loaded : Files → Loaded → List (List ℕ) → Result Loaded About
@@ -66,7 +66,7 @@ modules_loaded files loaded (name ∷ names) = made_of_file (module_in loaded) f
 -- the modules, and then the script
 abbrev pub modules_verdict : System → Sides → ℕ → Shown → Files → Verdict
 modules_verdict system sides ticks shown files =
-    modules_loaded files (before_modules sides) system.modules >>= λ loaded. script_verdict system.script loaded ticks shown files
+    modules_loaded files (before_modules sides) system.modules >>= λ loaded. script_verdict system loaded ticks shown files
 
 -- the image, and then the modules
 abbrev pub image_verdict : System → ℕ → Shown → Files → Verdict

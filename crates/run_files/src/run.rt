@@ -22,6 +22,8 @@ pub struct AcceptedRun {
     pub sides: Sides,
     /// The entries of the modules' inits, in the order of the system file.
     pub inits: Items<u32>,
+    /// The version of the rule that picks among ready threads of equal priority, 1 or 2.
+    pub version: u8,
     /// The events from outside.
     pub script: Script,
     /// How many ticks are run.

@@ -1,6 +1,7 @@
 -- What a run is that is accepted, and the files that are fetched for one.
-use Rattle.std.specs.Prelude.{◌≡◌, ◌≤◌, ◌⊎◌, ℕ, List, [], ◌∷◌, length, Some, Result, Ok, Err}
+use Rattle.std.specs.Prelude.{◌≡◌, ◌≤◌, ◌⊎◌, ℕ, true, List, [], ◌∷◌, length, Some, Result, Ok, Err}
 use Rattle.outside_io.specs.Store.{Files}
+use Rattle.system_file.specs.Fields.{is_version}
 use Rattle.system_file.specs.declared.system.System.{System}
 use Rattle.device_script.specs.Event.{IsScript}
 use Rattle.run_files.specs.declared.modules.Loaded.{Loaded}
@@ -10,11 +11,12 @@ use Rattle.run_files.specs.Files.{system_in, sides_in, module_in}
 use Rattle.run_files.specs.Modules.{before_modules}
 use Rattle.run_files.specs.Verdict.{About, made_of_file, modules_loaded}
 
--- what a run is that is accepted: the sizes of its sides, the number of its inits, and the rules of its script
+-- what a run is that is accepted: the sizes of its sides, the number of its inits, a version that there is, and the rules of its script
 pub record IsReady (run : AcceptedRun) : Type 0 where
   pub guest : (65536 ≤ length run.sides.memory.guest) × (length run.sides.memory.guest ≤ 16777216)
   pub real_time : (65536 ≤ length run.sides.memory.real_time) × (length run.sides.memory.real_time ≤ 4194304)
   pub inits : length run.inits ≤ 16
+  pub version : is_version run.version ≡ true
   pub script : IsScript run.script.events
 
 -- what stands behind an accepted file

@@ -1,6 +1,7 @@
 // The run of a system file.
-ghost use Rattle.std.specs.Prelude.{◌≡◌, ◌≤◌, [], length, IfOk, IfSome, Some};
+ghost use Rattle.std.specs.Prelude.{◌≡◌, ◌≤◌, true, [], length, IfOk, IfSome, Some};
 ghost use Rattle.outside_io.specs.Names.{IsName};
+ghost use Rattle.system_file.specs.Fields.{is_version};
 ghost use Rattle.run_files.specs.Files.{IsAccepted};
 ghost use Rattle.run_files.specs.Refusal.{Tells, FaultsBy, BlamesFile, IfUnread};
 ghost use Rattle.run_files.specs.Verdict.{system_verdict, image_verdict, modules_verdict, script_verdict};
@@ -13,7 +14,7 @@ use item_list::Items;
 use outside_io::Store;
 use run_files::{AcceptedRun, Loaded, Refusal, Shown, Sides};
 use std::alloc::Global;
-use system_file::{Name, System};
+use system_file::System;
 
 /// Fetches the system file of this name, its image, its modules and its script, in this order, up to the first that is refused.
 /// The run is of these ticks, and shows these lines.
@@ -88,7 +89,7 @@ fn open_behind_image<S: Store>(
     ensures cause { FaultsBy (S.faults store.old) (S.faults store.new) (S.failed_last store.new) result }
 {
     match open_modules(alloc, store, system.modules.as_slice(), sides) {
-        Ok(loaded) => open_behind_modules(alloc, store, &system.script, loaded, ticks, shown),
+        Ok(loaded) => open_behind_modules(alloc, store, system, loaded, ticks, shown),
         Err(refusal) => Err(refusal),
     }
 }
@@ -97,17 +98,18 @@ fn open_behind_image<S: Store>(
 fn open_behind_modules<S: Store>(
     alloc: Global,
     store: &mut S,
-    script: &Option<Name>,
+    system: &System,
     loaded: Loaded,
     ticks: u32,
     shown: Shown,
 ) -> Result<AcceptedRun, Refusal>
-    requires name { IfSome script.now IsName }
+    requires name { IfSome system.now.script IsName }
+    requires version { is_version system.now.version ≡ true }
     requires guest { (65536 ≤ length loaded.sides.memory.guest) × (length loaded.sides.memory.guest ≤ 16777216) }
     requires real_time { (65536 ≤ length loaded.sides.memory.real_time) × (length loaded.sides.memory.real_time ≤ 4194304) }
     requires few { length loaded.inits ≤ 16 }
-    ensures told { IfSome (S.held store.old) (λ files. Tells result (script_verdict script.now loaded ticks shown files)) }
-    ensures unread { IfUnread result (λ unread. script.now ≡ Some unread) }
+    ensures told { IfSome (S.held store.old) (λ files. Tells result (script_verdict system.now loaded ticks shown files)) }
+    ensures unread { IfUnread result (λ unread. system.now.script ≡ Some unread) }
     ensures ready { IfOk result IsReady }
     ensures ticks { IfOk result (λ run. run.ticks ≡ ticks) }
     ensures shown { IfOk result (λ run. run.shown ≡ shown) }
@@ -115,12 +117,13 @@ fn open_behind_modules<S: Store>(
     ensures blame { BlamesFile result }
     ensures cause { FaultsBy (S.faults store.old) (S.faults store.new) (S.failed_last store.new) result }
 {
-    let name = match script {
+    let name = match &system.script {
         Some(name) => name.as_str(),
         None => {
             return Ok(AcceptedRun {
                 sides: loaded.sides,
                 inits: loaded.inits,
+                version: system.version,
                 script: no_script(alloc),
                 ticks,
                 shown,
@@ -131,6 +134,7 @@ fn open_behind_modules<S: Store>(
         Ok(script) => Ok(AcceptedRun {
             sides: loaded.sides,
             inits: loaded.inits,
+            version: system.version,
             script,
             ticks,
             shown,

@@ -103,6 +103,7 @@ fn boot(alloc: Global, run: AcceptedRun) -> Result<Machine, NoMemory>
     let AcceptedRun {
         sides,
         inits,
+        version,
         script,
         ..
     } = run;
@@ -113,7 +114,7 @@ fn boot(alloc: Global, run: AcceptedRun) -> Result<Machine, NoMemory>
             memory,
             entry,
             inits: inits.into_vec(),
-            version: 1,
+            version,
             script,
         },
     )

@@ -17,7 +17,7 @@ a timer of the guest beside the due of a thread | m.elf=11000=b802000000bb2f1001
 // Does the program answer as a row says?
 fn row_holds(alloc: Global, row: &str) -> Result<bool, Fail> {
     let guest = hex_of(alloc, field(row, 2)?)?;
-    let store = store_of(alloc, field(row, 1)?, guest.as_slice(), &[])?;
+    let store = store_of(alloc, "1", field(row, 1)?, guest.as_slice(), &[])?;
     let words = format!(in alloc; "run s.toml --ticks {}", field(row, 3)?)?;
     let answer = answer_of(alloc, words.as_str(), store, 4000, &[])?;
     has_come(alloc, &answer, field(row, 4)?, field(row, 5)?)

@@ -26,7 +26,7 @@ static CODE: [&str; 4] = [
 // The real-time lines of a row's run with this guest.
 fn lines_beside(alloc: Global, row: &str, guest: &[u8]) -> Result<String, Fail> {
     let script = bytes_of(alloc, field(row, 1)?)?;
-    let store = store_of(alloc, field(row, 2)?, guest, script.as_slice())?;
+    let store = store_of(alloc, "1", field(row, 2)?, guest, script.as_slice())?;
     let words = format!(in alloc; "run s.toml --ticks {}", field(row, 3)?)?;
     let answer = answer_of(alloc, words.as_str(), store, 4000, &[])?;
     if !answer.kept {

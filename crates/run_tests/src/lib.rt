@@ -39,3 +39,5 @@ mod system_files;
 mod systems;
 #[cfg(test)]
 mod threads;
+#[cfg(test)]
+mod versions;

@@ -30,16 +30,17 @@ pub fn image_at(alloc: Global, address: u32, code: &[u8]) -> Result<Vec<u8>, Fai
 /// Files by their names.
 pub type Held = Vec<(String, Vec<u8>)>;
 
-/// A store of s.toml with these names of modules, each quoted, of its guest and its script, and of these files.
+/// A store of s.toml with this version and these names of modules, each quoted, of its guest and its script, and of these files.
 pub fn store_with(
     alloc: Global,
+    version: &str,
     names: &str,
     guest: &[u8],
     script: &[u8],
     mut files: Held,
 ) -> Result<MemoryStore, Fail> {
     let system = format!(in alloc;
-        "version = 1\nimage = \"k.bin\"\nguest_memory = 65536\nreal_time_memory = 65536\nmodules = [{names}]\nscript = \"d.txt\"\n"
+        "version = {version}\nimage = \"k.bin\"\nguest_memory = 65536\nreal_time_memory = 65536\nmodules = [{names}]\nscript = \"d.txt\"\n"
     )?;
     files.push((
         String::from_str(alloc, "s.toml")?,
@@ -64,6 +65,7 @@ fn module_of(alloc: Global, address: &str, digits: &str) -> Result<Vec<u8>, Fail
 /// just these bytes, and of `m.elf` alone there is no file.
 pub fn store_of(
     alloc: Global,
+    version: &str,
     modules: &str,
     guest: &[u8],
     script: &[u8],
@@ -80,5 +82,5 @@ pub fn store_of(
             ))?;
         }
     }
-    store_with(alloc, names.as_str(), guest, script, files)
+    store_with(alloc, version, names.as_str(), guest, script, files)
 }

@@ -46,6 +46,7 @@ a print, and a byte over COM2 | - | m.elf=11000=b04166baf802eeb818000000bb001001
 fn row_holds(alloc: Global, row: &str) -> Result<bool, Fail> {
     let store = store_of(
         alloc,
+        "1",
         field(row, 2)?,
         hex_of(alloc, SMALL)?.as_slice(),
         bytes_of(alloc, field(row, 1)?)?.as_slice(),

@@ -32,6 +32,7 @@ fn is_refused(alloc: Global, store: MemoryStore, status: &str, line: &str) -> Re
 fn row_is_refused(alloc: Global, row: &str) -> Result<bool, Fail> {
     let store = store_of(
         alloc,
+        "1",
         field(row, 2)?,
         hex_of(alloc, SMALL)?.as_slice(),
         bytes_of(alloc, field(row, 1)?)?.as_slice(),
@@ -56,7 +57,7 @@ fn a_module_larger_than_a_file_may_be_is_refused(rt: HostRuntime) -> Result<(), 
         vec![in alloc; 0u8; 33_554_433]?,
     ))?;
     let image = hex_of(alloc, SMALL)?;
-    let store = store_with(alloc, "\"m.elf\"", image.as_slice(), &[], files)?;
+    let store = store_with(alloc, "1", "\"m.elf\"", image.as_slice(), &[], files)?;
     assert!(rt; is_refused(alloc, store, "12", "E 12 m.elf;")?);
     Ok(())
 }

@@ -7,6 +7,7 @@ use std::test::Fail;
 /// Systems of which the small image only jumps for 5 ticks.
 static RAN: &str = "\
 forms | # a comment;'version' = 0x1 # one;\"image\" = 'k.bin';guest_memory = 65_536;real_time_memory = 0b1_0000_0000_0000_0000;modules = [;  # none;];
+the second version | version = 2;image = \"k.bin\";guest_memory = 65536;real_time_memory = 65536;
 ";
 
 /// Systems that are refused: the status and the line.
@@ -34,7 +35,6 @@ version3 | version = 3;image = \"k.bin\";guest_memory = 65536;real_time_memory =
 a key without a value | version = | 10 | E 10 s.toml;
 no image | version = 1;guest_memory = 65536;real_time_memory = 65536; | 11 | E 11 s.toml;
 the third version | version = 3;image = \"k.bin\";guest_memory = 65536;real_time_memory = 65536; | 11 | E 11 s.toml;
-the second version | version = 2;image = \"k.bin\";guest_memory = 65536;real_time_memory = 65536; | 11 | E 11 s.toml;
 a name that is a number | version = 1;image = 1;guest_memory = 65536;real_time_memory = 65536; | 11 | E 11 s.toml;
 a size as a text | version = 1;image = \"k.bin\";guest_memory = \"65536\";real_time_memory = 65536; | 11 | E 11 s.toml;
 a module that is no name | version = 1;image = \"k.bin\";guest_memory = 65536;real_time_memory = 65536;modules = [\"m\", 1]; | 11 | E 11 s.toml;

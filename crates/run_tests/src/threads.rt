@@ -13,7 +13,7 @@ fn answer_to(alloc: Global, plan: &[Planned], ticks: u32) -> Result<Answer, Fail
     let mut files = Vec::new(alloc);
     files.push((String::from_str(alloc, "m.elf")?, module_of(alloc, plan)?))?;
     let image = hex_of(alloc, SMALL)?;
-    let store = store_with(alloc, "\"m.elf\"", image.as_slice(), &[], files)?;
+    let store = store_with(alloc, "1", "\"m.elf\"", image.as_slice(), &[], files)?;
     let words = format!(in alloc; "run s.toml --ticks {ticks}")?;
     answer_of(alloc, words.as_str(), store, 1_000_000, &[])
 }

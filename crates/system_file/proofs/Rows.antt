@@ -18,3 +18,12 @@ no_value = refl
 no_image : system_of_file (codes "version = 1\nguest_memory = 65536\nreal_time_memory = 65536\n") ≡ Err Field
 unfolding toml_on_literals system_of_file is_utf8 chars fields_of
 no_image = refl
+
+second_version : system_of_file (codes "version = 2\nimage = \"k.bin\"\nguest_memory = 65536\nreal_time_memory = 65536\n")
+    ≡ Ok (record { version = 2; image = codes "k.bin"; guest_memory = 65536; real_time_memory = 65536; modules = []; script = None })
+unfolding toml_on_literals system_of_file is_utf8 chars fields_of
+second_version = refl
+
+third_version : system_of_file (codes "version = 3\nimage = \"k.bin\"\nguest_memory = 65536\nreal_time_memory = 65536\n") ≡ Err Field
+unfolding toml_on_literals system_of_file is_utf8 chars fields_of
+third_version = refl

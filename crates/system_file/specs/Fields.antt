@@ -9,9 +9,9 @@ infixl 10 ◌>>=◌
 abbrev pub ◌>>=◌ : {A B : Type 0} → Option A → (A → Option B) → Option B
 o >>= f = option_and_then f o
 
--- a version of the file's form: 1 is the only one
+-- a version of the rule that picks among ready threads of equal priority: 1, by arrival, or 2, by the due
 abbrev pub is_version : ℕ → Bool
-is_version n = n == 1
+is_version n = n == 1 || n == 2
 
 abbrev pub version_of : Data → Option ℕ
 version_of (integer (pos n)) = if is_version n then Some n else None

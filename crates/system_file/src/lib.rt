@@ -3,7 +3,7 @@
 //!
 //! | field | value |
 //! |---|---|
-//! | `version` | 1 |
+//! | `version` | 1 or 2: which of the ready threads of equal priority goes first, by arrival or by due |
 //! | `image` | a name |
 //! | `guest_memory` | bytes, 65,536 to 16,777,216 in steps of 4,096 |
 //! | `real_time_memory` | bytes, 65,536 to 4,194,304 in steps of 4,096 |

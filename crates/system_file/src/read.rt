@@ -99,6 +99,7 @@ fn version(value: Option<&Value>) -> Result<u8, SystemRefusal>
 {
     match value {
         Some(Value::Integer(1)) => Ok(1),
+        Some(Value::Integer(2)) => Ok(2),
         _ => Err(SystemRefusal::Field),
     }
 }

@@ -6,7 +6,8 @@ use item_list::Items;
 /// What a system file holds. The sizes are in bytes.
 #[derive(Drop)]
 pub struct System {
-    /// The version of the file's form.
+    /// The version of the rule that picks among ready threads of equal priority: 1, the one that came first, or 2, the one whose due was
+    /// first.
     pub version: u8,
     /// The file of the guest's image.
     pub image: Name,

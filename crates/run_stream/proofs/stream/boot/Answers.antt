@@ -9,5 +9,5 @@ use Rattle.run_stream.proofs.stream.boot.Goals as goal
 
 pub returns : goal.returns
 returns c =
-    let real = subst (λ (inits : List ℕ). IfOk c.boot.result (λ (m : MachineParts). real_of m ≡ first_state (real_start_of c.args.run.sides.memory 1 inits))) c.into_vec.ensures c.boot.ensures.real_time in
+    let real = subst (λ (inits : List ℕ). IfOk c.boot.result (λ (m : MachineParts). real_of m ≡ first_state (real_start_of c.args.run.sides.memory c.args.run.version inits))) c.into_vec.ensures c.boot.ensures.real_time in
     booted c.args.run c.boot.result c.requires.script c.boot.ensures.guest real c.boot.ensures.hardware c.boot.ensures.stands c.boot.ensures.coming c.boot.ensures.ticks
