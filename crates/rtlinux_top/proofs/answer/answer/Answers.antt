@@ -7,6 +7,7 @@ use Rattle.run_request.specs.Request.{FollowsWords}
 use Rattle.rtlinux_top.specs.Answers.{NamesAskedFile}
 use Rattle.rtlinux_top.specs.Verdict.{asked_ticks, status_by}
 use Rattle.rtlinux_top.specs.Words.{command_of}
+use Rattle.rtlinux_top.proofs.Part.{part_of_run}
 use Rattle.rtlinux_top.proofs.Refused.{read_is, ticks_are, usage_is}
 use Rattle.rtlinux_top.proofs.answer.answer.Goals as goal
 
@@ -36,3 +37,9 @@ returns-in-Ok-put-clause-course g c =
       memory = search rules;
       dropped = search rules;
     }
+
+pub returns-in-Ok-clause-after_write : goal.returns-in-Ok-clause-after_write
+returns-in-Ok-clause-after_write g c = λ failed.
+    part_of_run (command_of c.args.words.now.items) (g.S.Store.held c.args.store.now) _
+        (g.K.Sink.written c.args.sink.now) (g.K.Sink.written c.run_accepted.new.sink) _
+        c.in-Ok.ensures.told (c.run_accepted.ensures.part failed)
