@@ -40,6 +40,6 @@ returns-in-Ok-put-clause-course g c =
 
 pub returns-in-Ok-clause-after_write : goal.returns-in-Ok-clause-after_write
 returns-in-Ok-clause-after_write g c = λ failed.
-    part_of_run (command_of c.args.words.now.items) (g.S.Store.held c.args.store.now) _
+    part_of_run (command_of c.args.words.now.items) (g.S.Store.held c.args.store.now) c.in-Ok.run'
         (g.K.Sink.written c.args.sink.now) (g.K.Sink.written c.run_accepted.new.sink) _
         c.in-Ok.ensures.told (c.run_accepted.ensures.part failed)
