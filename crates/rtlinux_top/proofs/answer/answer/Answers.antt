@@ -1,11 +1,13 @@
-use Rattle.std.proofs.Common.{rules, ap, subst, ◌∙◌}
-use Rattle.std.specs.Prelude.{Err}
+use Rattle.std.proofs.Common.{◌≡◌, rules, ap, subst, ◌∙◌}
+use Rattle.std.specs.Prelude.{Err, IfSome, Ok}
 use Rattle.run_files.specs.declared.cause.Refusal.{Refusal}
 use Rattle.run_files.specs.declared.run.AcceptedRun.{AcceptedRun}
 use Rattle.run_files.specs.Refusal.{FaultsBy, IfUnread}
 use Rattle.run_request.specs.Request.{FollowsWords}
 use Rattle.rtlinux_top.specs.Answers.{NamesAskedFile}
-use Rattle.rtlinux_top.specs.Verdict.{asked_ticks, status_by}
+use Rattle.run_stream.specs.Writes.{AppendsPart}
+use Rattle.run_files.specs.Verdict.{Verdict}
+use Rattle.rtlinux_top.specs.Verdict.{asked_ticks, status_by, verdict_of, verdict_output}
 use Rattle.rtlinux_top.specs.Words.{command_of}
 use Rattle.rtlinux_top.proofs.Part.{part_of_run}
 use Rattle.rtlinux_top.proofs.Refused.{read_is, ticks_are, usage_is}
@@ -40,6 +42,9 @@ returns-in-Ok-put-clause-course g c =
 
 pub returns-in-Ok-clause-after_write : goal.returns-in-Ok-clause-after_write
 returns-in-Ok-clause-after_write g c = λ failed.
-    part_of_run (command_of c.args.words.now.items) (g.S.Store.held c.args.store.now) _
-    (g.K.Sink.written c.args.sink.now) (g.K.Sink.written c.run_accepted.new.sink) _
-    c.in-Ok.ensures.told (c.run_accepted.ensures.part failed)
+    let asked = command_of c.args.words.now.items in
+    let held = g.S.Store.held c.args.store.now in
+    let told : IfSome held (λ files. verdict_of asked files ≡ Ok c.in-Ok.run') = rw c.as_slice.ensures.value at c.in-Ok.ensures.told in
+    let written : Verdict → Type 0 = λ verdict.
+    AppendsPart (g.K.Sink.written c.args.sink.now) (g.K.Sink.written c.run_accepted.new.sink) (verdict_output verdict) in
+    part_of_run asked held c.in-Ok.run' written _ told (c.run_accepted.ensures.part failed)
