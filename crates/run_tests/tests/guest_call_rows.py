@@ -62,24 +62,24 @@ def row(what, guest, module, ticks, status, lines, registers, guest_after, modul
 
 def calls():
     """A module with FIFO 1 of 4 bytes, in which it puts `abc`, and its handler; and a guest whose calls are refused, find nothing, move nothing,
-    and get the three bytes. Its last put passes the end of its side."""
+    and get the three bytes. Its last put passes the end of its side. A return is two ticks: the RET, and INT F9h of the stub."""
     text, handler = MODULE + 55, MODULE + 58
     init = (move(EAX, 11) + move(EBX, 1) + move(ECX, 4) + b"\xcd\xf8" + move(EAX, 13) + move(ECX, text) + move(EDX, 3) + b"\xcd\xf8"
             + move(EAX, 16) + move(ECX, handler) + b"\xcd\xf8" + b"\xc3")
     init += bytes(55 - len(init)) + b"abc\xc3"
     gate = b"\xcd\xf6"
-    code = (move(EAX, 4) + move(EBX, 5) + move(ECX, 0x200) + move(EDX, 2) + gate        # ticks 13 to 17: FIFO 5 isn't there
-            + move(EAX, 5) + gate                                                       # 18, 19
-            + move(EAX, 4) + move(EDX, 257) + gate                                      # 20 to 22: too many
-            + move(EAX, 4) + move(EBX, 1) + move(EDX, 0) + gate                         # 23 to 26: no bytes
-            + move(EAX, 5) + move(ECX, 0x208) + move(EDX, 8) + gate                     # 27 to 30: the three bytes
-            + move(EAX, 4) + move(ECX, 0xFFFF) + move(EDX, 2))                          # 32 to 34, and 35 at the end of the side
+    code = (move(EAX, 4) + move(EBX, 5) + move(ECX, 0x200) + move(EDX, 2) + gate        # ticks 14 to 18: FIFO 5 isn't there
+            + move(EAX, 5) + gate                                                       # 19, 20
+            + move(EAX, 4) + move(EDX, 257) + gate                                      # 21 to 23: too many
+            + move(EAX, 4) + move(EBX, 1) + move(EDX, 0) + gate                         # 24 to 27: no bytes
+            + move(EAX, 5) + move(ECX, 0x208) + move(EDX, 8) + gate                     # 28 to 31: the three bytes
+            + move(EAX, 4) + move(ECX, 0xFFFF) + move(EDX, 2))                          # 34 to 36, and 37 at the end of the side
     lines = ["R 1 on init 0", "R 4 gate 11 00000001 00000004 00000000 00000000 0", f"R 8 gate 13 00000001 {text:08x} 00000003 00000000 3",
-             f"R 11 gate 16 00000001 {handler:08x} 00000003 00000000 0", "R 12 ret", "R 13 on guest",
-             "R 17 reply -19 -", "G 17 put 5 7879", "R 19 reply -19 -", "G 19 get 5 2", "R 26 reply 0 -", "G 26 put 1 -",
-             "R 30 reply 3 616263", "G 30 get 1 8", "R 31 on fifo 1", "R 31 ret", "R 32 on guest", "G 35 breach load 00010000"]
+             f"R 11 gate 16 00000001 {handler:08x} 00000003 00000000 0", "R 13 ret", "R 14 on guest",
+             "R 18 reply -19 -", "G 18 put 5 7879", "R 20 reply -19 -", "G 20 get 5 2", "R 27 reply 0 -", "G 27 put 1 -",
+             "R 31 reply 3 616263", "G 31 get 1 8", "R 32 on fifo 1", "R 33 ret", "R 34 on guest", "G 37 breach load 00010000"]
     row("calls that find nothing, are refused, move nothing, get what is there, and pass the side's end", [(0, code + gate), (0x200, b"xy")],
-        [(MODULE, init)], "37", "breach", lines, ("stopped", len(code), 2, 4, 0xFFFF, 2, 1), [(0x208, b"abc")])
+        [(MODULE, init)], "38", "breach", lines, ("stopped", len(code), 2, 4, 0xFFFF, 2, 1), [(0x208, b"abc")])
 
 
 def get_outside():
