@@ -1,26 +1,51 @@
 #!/usr/bin/env bash
-# Times the built program on six images and prints, for each, ticks per second of processor time, the rate as a ratio to that
-# of the loop, and peak memory; beside it the same loop in QEMU, one instruction at a time, and in Bochs, where these and an
-# assembler are installed. All take turns in twenty rounds, and the best of each counts, so that a machine that is slow for a while
-# is so for all of them. All ratios are of one run of this script. It builds nothing of the product.
-# usage: bench/run.sh [PROGRAM]
+# Times the built program on six images and on the systems of bench/systems.py and prints, for each, ticks per second of processor time,
+# the rate as a ratio to that of the loop, and peak memory; beside it the same loop in QEMU, one instruction at a time, and in Bochs, where
+# these and an assembler are installed. With OTHER, the path of a second program, that takes the same turns, and each rate is given as a
+# ratio to its too: so a build before a change and one behind it are compared. All take turns in twenty rounds, or in as many as ROUNDS says,
+# and the best of each counts, so that a machine that is slow for a while is so for all of them. All ratios are of one run of this script. It
+# builds nothing of the product.
+# usage: [OTHER=PROGRAM] [ROUNDS=20] bench/run.sh [PROGRAM]
 set -euo pipefail
 [ $# -le 1 ] || { echo "usage: bench/run.sh [PROGRAM]" >&2; exit 2; }
 program=${1:+$(realpath -m "$1")}
+other=${OTHER:+$(realpath -m "$OTHER")}
+rounds=${ROUNDS:-20}
+[[ $rounds =~ ^[1-9][0-9]{0,3}$ ]] || { echo "bench: ROUNDS is a number from 1 to 9999, not $rounds" >&2; exit 2; }
 cd "$(dirname "$0")/.."
 program=${program:-$PWD/crates/rtlinux_cli/out/rtlinux_cli}
-[ -f "$program" ] && [ -x "$program" ] || { echo "bench: no program at $program: build it first" >&2; exit 1; }
+for built in "$program" ${other:+"$other"}; do
+    [ -f "$built" ] && [ -x "$built" ] || { echo "bench: no program at $built: build it first" >&2; exit 1; }
+done
+export PYTHONDONTWRITEBYTECODE=1
 command -v python3 > /dev/null || { echo "bench: no python3, which measures" >&2; exit 1; }
 work=$(mktemp -d)
 trap 'rm -rf "$work"' EXIT
 
 ticks=3000000
+system_ticks=1000000
 few=100000
 many=10100000
 
-# What is measured, one line each: its name, then the words of its command.
+# What is measured, one line each: its name, the ticks of a run or its turns of the loop, then the words of its command.
 measure() {
     (IFS=$'\t' && printf '%s\n' "$*") >> "$work/commands"
+}
+
+# A run of each program, of so many ticks, which are the last word: measures NAME TICKS WORDS.
+programs() {
+    local name=$1 count=$2 built
+    shift 2
+    for built in "$program" ${other:+"$other"}; do
+        measure "$name" "$count" "$built" "$@" "$count"
+    done
+}
+
+# The same on a system of bench/systems.py, whose run does what is measured.
+on_system() {
+    "$program" run "$work/$2.toml" --ticks 20000 > "$work/trace" || { echo "bench: $2 ended with $?, not 0" >&2; exit 1; }
+    bench/systems.py check "$2" 20000 < "$work/trace"
+    programs "$1" "$system_ticks" run "$work/$2.toml" --ticks
 }
 
 printf '\xcd\xf5' > "$work/halted.bin"                                # the soft hlt
@@ -33,12 +58,22 @@ printf '\xb8\1\0\0\0\xbb\0\1\0\0\xb9\x21\0\0\0\xcd\xf6\xb8\2\0\0\0\x31\xdb\xcd\x
     > "$work/entered.bin"
 truncate -s 512 "$work/entered.bin"
 printf '\x2a\0\x08\0\0\x8e\0\0' >> "$work/entered.bin"
-measure "a loop of two instructions" "$program" flat examples/loop.bin "$ticks"
-measure "a computation in C, then a jump to itself" "$program" flat examples/compute/compute.bin "$ticks"
-measure "a halted guest: devices and lines alone" "$program" flat "$work/halted.bin" "$ticks"
-measure "writes to COM1, one line in 32 ticks" "$program" flat "$work/sends.bin" "$ticks"
-measure "a timer of 1,000 ticks, its line masked" "$program" flat "$work/masked.bin" "$ticks"
-measure "a timer of 1,000 ticks, with a handler" "$program" flat "$work/entered.bin" "$ticks"
+programs "a loop of two instructions" "$ticks" flat examples/loop.bin
+programs "a computation in C, then a jump to itself" "$ticks" flat examples/compute/compute.bin
+programs "a halted guest: devices and lines alone" "$ticks" flat "$work/halted.bin"
+programs "writes to COM1, one line in 32 ticks" "$ticks" flat "$work/sends.bin"
+programs "a timer of 1,000 ticks, its line masked" "$ticks" flat "$work/masked.bin"
+programs "a timer of 1,000 ticks, with a handler" "$ticks" flat "$work/entered.bin"
+bench/systems.py write "$work"
+on_system "64 threads of 64 priorities wait, are released" threads
+on_system "FIFOs: 256 bytes there and back in 23 ticks" fifos
+made=0
+"$program" make 7 --ticks 1 > /dev/null || made=$?
+if [ "$made" = 5 ]; then
+    echo "make 7: skipped, this program has no such command"
+else
+    programs "make 7" "$system_ticks" make 7 --ticks
+fi
 
 # A ROM that runs the loop so often.
 rom() {
@@ -51,8 +86,8 @@ rom() {
 emulator() {
     local name=$1
     shift
-    measure "$name" "${@/@ROM@/$work/$few.rom}"
-    measure "$name" "${@/@ROM@/$work/$many.rom}"
+    measure "$name" "$few" "${@/@ROM@/$work/$few.rom}"
+    measure "$name" "$many" "${@/@ROM@/$work/$many.rom}"
 }
 
 if command -v as > /dev/null && command -v ld > /dev/null; then
@@ -86,20 +121,21 @@ else
 fi
 
 echo c > "$work/debugger"
-python3 - "$work/commands" "$work/debugger" "$program" "$ticks" "$few" "$many" <<'PY'
+python3 - "$work/commands" "$work/debugger" "$rounds" "$program" ${other:+"$other"} <<'PY'
 import re, resource, subprocess, sys, time
 
-commands, debugger, program = sys.argv[1:4]
-ticks, few, many = map(int, sys.argv[4:])
+commands, debugger, rounds, *programs = sys.argv[1:]
 with open(commands) as lines:
-    measured = [tuple(line.rstrip("\n").split("\t")) for line in lines]
+    cells = [line.rstrip("\n").split("\t") for line in lines]
+# The name, the ticks or turns, the words.
+measured = [(name, int(count), tuple(words)) for name, count, *words in cells]
 seconds, peak, endless = {}, {}, set()
 
 def spent():
     usage = resource.getrusage(resource.RUSAGE_CHILDREN)
     return usage.ru_utime + usage.ru_stime
 
-# The processor time of one run, which ends within a minute, and the most memory that it was seen to have.
+# The processor time of one run, which ends within a minute, the most memory that it was seen to have, and its status.
 def run(words):
     start, clock, high = spent(), time.monotonic(), 0
     # A Bochs that was built with its debugger waits for the command c.
@@ -112,24 +148,25 @@ def run(words):
         if time.monotonic() - clock > 60:
             process.kill()
             process.wait()
-            return None, high
+            return None, high, 0
         time.sleep(0.001)
-    if words[0] == program and process.returncode != 0:
-        sys.exit(f"bench: the program ended with {process.returncode}")
-    return spent() - start, high
+    return spent() - start, high, process.returncode
 
-for _ in range(20):
-    for words in measured:
-        if words[0] in endless:
+for _ in range(int(rounds)):
+    for case in measured:
+        if case in endless:
             continue
-        taken, high = run(words[1:])
-        if taken is None and words == measured[0]:
-            sys.exit(f"bench: {ticks} ticks of the loop take more than a minute, so there is nothing to compare with")
-        if taken is None:
-            endless.add(words[0])
+        taken, high, status = run(case[2])
+        # All ticks ran where the status is 0, and with 3 and 4 too, which tell of a breach and a fault.
+        if case[2][0] == programs[0] and taken is not None and status not in (0, 3, 4):
+            sys.exit(f"bench: {case[0]}: the program ended with {status}")
+        if taken is None and case == measured[0]:
+            sys.exit(f"bench: {case[1]} ticks of the loop take more than a minute, so there is nothing to compare with")
+        if taken is None or case[2][0] in programs and status not in (0, 3, 4):
+            endless.add(case)
         else:
-            seconds[words] = min(taken, seconds.get(words, taken))
-            peak[words] = max(high, peak.get(words, 0))
+            seconds[case] = min(taken, seconds.get(case, taken))
+            peak[case] = max(high, peak.get(case, 0))
 
 def report(name, rate, unit, loop, rest=""):
     print(f"{name:46} {rate / 1e6:7.2f} million {unit} per second, {rate / loop:.2f} of the loop{rest}")
@@ -137,18 +174,27 @@ def report(name, rate, unit, loop, rest=""):
 def no_end(name):
     print(f"{name}: no end within a minute", file=sys.stderr)
 
-loop = ticks / seconds[measured[0]]
-for words in [words for words in measured if words[1] == program]:
-    if words[0] in endless:
-        no_end(words[0])
+# How the rate of the second program at a case compares, where there is such a program and it runs the case.
+def beside(case):
+    if len(programs) == 1:
+        return ""
+    its = (case[0], case[1], (programs[1], *case[2][1:]))
+    if its not in seconds:
+        return ", which the other doesn't run"
+    return f", {seconds[its] / seconds[case]:.2f} of the other's {its[1] / seconds[its] / 1e6:.2f}"
+
+loop = measured[0][1] / seconds[measured[0]]
+for case in [case for case in measured if case[2][0] == programs[0]]:
+    if case in endless:
+        no_end(case[0])
     else:
-        report(words[0], ticks / seconds[words], "ticks", loop, f", {peak[words]} KB at most")
-emulated = [words for words in measured if words[1] != program]
+        report(case[0], case[1] / seconds[case], "ticks", loop, f"{beside(case)}, {peak[case]} KB at most")
+emulated = [case for case in measured if case[2][0] not in programs]
 for short, long in zip(emulated[::2], emulated[1::2]):
-    if short[0] in endless:
+    if short in endless or long in endless:
         no_end(short[0])
     elif seconds[long] - seconds[short] < 0.01:
         print(f"{short[0]}: it didn't run the loop here", file=sys.stderr)
     else:
-        report(f"{short[0]}, the same loop", 2 * (many - few) / (seconds[long] - seconds[short]), "instructions", loop)
+        report(f"{short[0]}, the same loop", 2 * (long[1] - short[1]) / (seconds[long] - seconds[short]), "instructions", loop)
 PY

@@ -18,7 +18,9 @@ fn request(ebx: u32, ecx: u32, edx: u32) -> Request {
 
 #[test]
 fn a_thread_by_its_gates(rt: HostRuntime) -> Result<(), Fail> {
-    let mut all = Executive::new(rt.alloc(), 1).ok().ok_or("no memory")?;
+    let Ok(mut all) = Executive::new(rt.alloc(), 1) else {
+        return Err(Fail::new("no memory"));
+    };
     let mut bytes = [0; 64];
     let mut side = Side::new(0x1000, &mut bytes);
     assert_eq!(rt;

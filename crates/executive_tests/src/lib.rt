@@ -8,6 +8,10 @@ mod fifos;
 #[cfg(test)]
 mod gates_on_threads;
 #[cfg(test)]
+mod plain_dues;
+#[cfg(test)]
+mod plain_fifos;
+#[cfg(test)]
 mod ready_threads;
 #[cfg(test)]
 mod threads;

@@ -1,4 +1,7 @@
+mod Firsts
+mod Gathered
 mod Greatest
 mod Members
-mod Rating
+mod Moved
+mod Numbers
 mod Scanning

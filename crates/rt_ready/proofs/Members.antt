@@ -1,11 +1,11 @@
 -- The numbers in a ready list stay apart and below 64, so that there are at most 64.
-use Rattle.std.proofs.Common.{◌≡◌, ℕ, ◌<◌, ◌≤◌, Bool, true, false, not, ◌||◌, ◌==◌, refl, sym, ap, ◌∙◌, arith, List, [], ◌∷◌, ◌++◌, length, map, filter, find, cond, eqb, subst, Option, Some, IfSome}
+use Rattle.std.proofs.Common.{◌≡◌, ℕ, suc, ◌+◌, ◌<◌, ◌≤◌, Bool, true, false, not, ◌||◌, ◌==◌, refl, sym, ap, ◌∙◌, arith, List, [], ◌∷◌, ◌++◌, length, map, filter, cond, eqb, subst}
 use Rattle.std.proofs.lemmas.Bool.{eqb-true, eqb-false, ne_eqb}
 use Rattle.std.proofs.lemmas.List.{length-map, length_push}
 use Rattle.std.proofs.lemmas.Map.Steps.{length-le_from_distinct_below}
 use Rattle.std.specs.List.{list_any, AllByRecursion, IsDistinct}
 use Rattle.rt_ready.specs.Members.{AreMembers}
-use Rattle.rt_ready.specs.Order.{first_place, id_of, is_beaten_in, is_in, rated}
+use Rattle.rt_ready.specs.Order.{id_of, is_in, rated, without_place}
 use Rattle.rt_ready.specs.declared.ready.Place.{Place}
 
 pub or_left : (a b : Bool) → (a || b) ≡ false → a ≡ false
@@ -87,14 +87,28 @@ few ps m = subst (λ n. n ≤ 64) (length-map ps id_of) (length-le_from_distinct
 pub has_room : (ps : List Place) (p : Place) → AreMembers ps → p.id < 64 → is_in p.id ps ≡ false → length ps < 64
 has_room ps p m small apart = let n = few (ps ++ p ∷ []) (members_push ps p m small apart) in let l = length_push ps p in omega (arith, n, l)
 
--- whatever is found is a member
-pub found_below : (test : Place → Bool) (ps : List Place) → AreMembers ps → IfSome (find test ps) (λ p. p.id < 64)
-found_below test [] m = tt
-found_below test (q ∷ ps) m = elim (test q) as (λ b. IfSome (cond b (Some q) (find test ps)) (λ p. p.id < 64)) [
-  | true ↦ m.0
-  | false ↦ found_below test ps m.2
-]
+-- one that isn't there can't go
+absent_stays : (i : ℕ) (ps : List Place) → is_in i ps ≡ false → length (without_place i ps) ≡ length ps
+absent_stays i [] h = refl
+absent_stays i (q ∷ ps) h =
+    let rest : length (without_place i ps) ≡ length ps = absent_stays i ps (or_right (q.id == i) (is_in i ps) h) in
+    rw (or_left (q.id == i) (is_in i ps) h) (ap suc rest)
 
-pub first_below : (version : ℕ) (ps : List Place) (o : Option Place) → AreMembers ps → o ≡ first_place version ps → IfSome o (λ p. p.id < 64)
-unfolding first_place
-first_below version ps o m e = subst (λ (x : Option Place). IfSome x (λ p. p.id < 64)) (sym e) (found_below (λ a. not (is_beaten_in version ps a)) ps m)
+-- one fewer where a member goes
+pub one_fewer : (i : ℕ) (ps : List Place) → AreMembers ps → is_in i ps ≡ true → length (without_place i ps) + 1 ≡ length ps
+one_fewer i [] m h = absurd cc
+one_fewer i (q ∷ ps) m h = elim (eqb q.id i) as (λ b. eqb q.id i ≡ b → (b || is_in i ps) ≡ true → length (cond (not b) (q ∷ without_place i ps) (without_place i ps)) + 1 ≡ suc (length ps)) [
+  | true ↦ λ e f. let n = absent_stays i ps (subst (λ n. is_in n ps ≡ false) (eqb-true q.id i e) m.1) in omega (arith, n)
+  | false ↦ λ e f. let n = one_fewer i ps m.2 f in omega (arith, n)
+] refl h
+
+-- one that has left isn't in it
+left_cond : (i : ℕ) (p : Place) (ps : List Place) → is_in i ps ≡ false → is_in i (cond (not (p.id == i)) (p ∷ ps) ps) ≡ false
+left_cond i p ps h = elim (p.id == i) as (λ b. p.id == i ≡ b → is_in i (cond (not b) (p ∷ ps) ps) ≡ false) [
+  | true ↦ λ e. h
+  | false ↦ λ e. ap (λ b. b || is_in i ps) e ∙ h
+] refl
+
+pub has_left : (i : ℕ) (ps : List Place) → is_in i (without_place i ps) ≡ false
+has_left i [] = refl
+has_left i (p ∷ ps) = left_cond i p (without_place i ps) (has_left i ps)

@@ -2,6 +2,7 @@
 #![tactic(auto)]
 
 mod ready;
+mod renumber;
 
 ghost use Rattle.rt_ready.specs.Laws.{IsGreatest, IsLongestReady, IsThere};
 ghost use Rattle.rt_ready.specs.Worked.{Picks};

@@ -1,6 +1,7 @@
 //! The dues of the waiting threads and of the guest's timer: the nearest one, and the count of the one-shot timer for it.
 #![tactic(auto)]
 
+mod order;
 mod timeline;
 
 ghost use Rattle.rt_timeline.specs.Laws.{IsNearest};

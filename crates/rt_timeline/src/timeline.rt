@@ -1,8 +1,11 @@
 // The timeline.
-ghost use Rattle.std.specs.Prelude.{◌≡◌, ◌<◌, ℕ, IfOk, IfSome, None, Some, replicate, slice_index_or, option_map};
+ghost use Rattle.std.specs.Prelude.{◌≡◌, ◌<◌, IfOk, IfSome, None, Some, replicate, option_map};
 ghost use Rattle.rt_constants.specs.declared.limits.TheConstants.{THREADS_LIMIT};
-ghost use Rattle.rt_timeline.specs.Dues.{due_in, earlier, nearest_from, nearest_due, first_due, come_by, with_due, taken_from, IsOwner, time_of, earlier_due, count_until};
+ghost use Rattle.rt_timeline.specs.Dues.{nearest_from, nearest_due, first_due, come_by, with_due, taken_from, IsOwner, count_until};
+ghost use Rattle.rt_timeline.specs.Index.{due_at, owner_at, place_named, place_of, second, with_place};
 
+use crate::order::{place_in, position_of};
+use arrayvec::ArrayVec;
 use outside_io::NoMemory;
 use rt_constants::limits::{SHOT_LIMIT, THREADS_LIMIT};
 use std::alloc::Global;
@@ -25,74 +28,45 @@ pub struct ThreadDue {
 /// The dues. Contracts see the 64 places of the threads and the guest's.
 #[derive(Drop)]
 pub struct Timeline {
-    threads: Vec<Option<u64>>,
-    guest: Option<u64>,
+    // the threads' by their numbers, and the guest's behind them
+    dues: Vec<Option<u64>>,
+    // the places that have a due, by due and then by place: the nearest due is that of the first entry, and what has come is a prefix
+    order: ArrayVec<u8, 65>,
 }
 
 impl Model for Timeline {
-    ghost use Rattle.std.specs.Prelude.{◌≡◌, length};
-    ghost use Rattle.rt_constants.specs.declared.limits.TheConstants.{THREADS_LIMIT};
     ghost use Rattle.rt_timeline.specs.Dues.{Dues};
+    ghost use Rattle.rt_timeline.specs.Index.{dues_of, IsTimeline};
 
     ghost Value = { Dues };
 
-    ghost view = { λ t. record { threads = t.threads.items; guest = t.guest } };
+    ghost view = { λ t. dues_of t.dues.items };
 
-    ghost invariant = { λ t. length t.threads.items ≡ THREADS_LIMIT };
+    ghost invariant = { IsTimeline };
 }
 
-fn earlier_due(a: Option<u64>, b: Option<u64>) -> Option<u64>
-    ensures { result ≡ earlier_due a b }
+// The place behind those of the threads.
+const GUEST: u8 = THREADS_LIMIT as u8;
+
+fn place_of(owner: Due) -> u8
+    requires { IsOwner owner }
+    ensures place { result ≡ place_of owner }
+    ensures within { result < 65 }
 {
-    match (a, b) {
-        (None, _) => b,
-        (Some(_), None) => a,
-        (Some(x), Some(y)) => Some(x.min(y)),
+    match owner {
+        Due::Thread(id) => id,
+        Due::Guest => GUEST,
     }
 }
 
-fn earlier(a: Option<ThreadDue>, b: Option<ThreadDue>) -> Option<ThreadDue>
-    ensures { result ≡ earlier a b }
+fn owner_at(place: u8) -> Due
+    requires { place < 65 }
+    ensures { result ≡ owner_at place }
 {
-    match (a, b) {
-        (None, _) => b,
-        (Some(_), None) => a,
-        (Some(x), Some(y)) => if y.due < x.due { b } else { a },
-    }
-}
-
-fn time_of(a: Option<ThreadDue>) -> Option<u64>
-    ensures { result ≡ time_of a }
-{
-    match a {
-        Some(x) => Some(x.due),
-        None => None,
-    }
-}
-
-fn first_due(a: Option<ThreadDue>, guest: Option<u64>) -> Option<(Due, u64)>
-    ensures { result ≡ first_due a guest }
-{
-    match (a, guest) {
-        (None, None) => None,
-        (None, Some(g)) => Some((Due::Guest, g)),
-        (Some(d), None) => Some((Due::Thread(d.id), d.due)),
-        (Some(d), Some(g)) => {
-            if g < d.due {
-                Some((Due::Guest, g))
-            } else {
-                Some((Due::Thread(d.id), d.due))
-            }
-        }
-    }
-}
-
-fn come_by(now: u64, due: Option<(Due, u64)>) -> Option<(Due, u64)>
-    ensures { result ≡ come_by now due }
-{
-    match due {
-        Some(d) => if d.1 <= now { Some(d) } else { None },
-        None => None,
+    if place < GUEST {
+        Due::Thread(place)
+    } else {
+        Due::Guest
     }
 }
 
@@ -105,35 +79,55 @@ fn count_until(now: u64, due: u64) -> u16
 }
 
 impl Timeline {
-    // The due at a place.
-    fn due_at(&self, place: u8) -> Option<ThreadDue>
-        requires { place < THREADS_LIMIT }
-        ensures { result ≡ due_in place (slice_index_or self.now.threads place None) }
+    // The first entry, with its due.
+    fn first(&self) -> Option<(u8, u64)>
+        ensures first { option_map place_named result ≡ first_due (nearest_from 0 self.now.threads) self.now.guest }
+        ensures nearest { option_map second result ≡ nearest_due self.now }
+        ensures within { IfSome result (λ x. x.0 < 65) }
     {
-        match self.threads[place as usize] {
-            Some(due) => Some(ThreadDue { id: place, due }),
+        if self.order.is_empty() {
+            return None;
+        }
+        let place = self.order[0];
+        match self.dues[place as usize] {
+            Some(due) => Some((place, due)),
             None => None,
         }
     }
 
-    // The nearest due of the threads, the lowest number first.
-    fn first_thread(&self) -> Option<ThreadDue>
-        ensures { result ≡ nearest_from 0 self.now.threads }
+    // A place has no due any more.
+    fn clear_place(&mut self, place: u8)
+        requires { place < 65 }
+        ensures { self.new ≡ with_place place None self.old }
     {
-        // Looked at so that the proof knows how many places there are.
-        let _threads = &self.threads;
-        let mut first = None;
-        for back in 0..THREADS_LIMIT as u8 {
-            first = earlier(self.due_at(THREADS_LIMIT as u8 - 1 - back), first);
+        match position_of(&self.dues, &self.order, place) {
+            Some(at) => {
+                self.order.remove(at);
+                self.dues[place as usize] = None;
+            }
+            None => {}
         }
-        first
+    }
+
+    // Sets the due of a place that has none.
+    fn set_place(&mut self, place: u8, at: u64)
+        requires within { place < 65 }
+        requires absent { due_at self.old place ≡ None }
+        ensures { self.new ≡ with_place place (Some at) self.old }
+    {
+        let i = place_in(&self.dues, &self.order, at, place);
+        self.order.insert(i, place);
+        self.dues[place as usize] = Some(at);
     }
 
     /// The nearest due; `None` exactly where there is none.
     pub fn nearest(&self) -> Option<u64>
         ensures { result ≡ nearest_due self.now }
     {
-        earlier_due(time_of(self.first_thread()), self.guest)
+        match self.first() {
+            Some((_, due)) => Some(due),
+            None => None,
+        }
     }
 
     /// The count of the one-shot timer for the nearest due, set in tick `now`; `None` exactly where there is no due (8254 data sheet,
@@ -152,21 +146,26 @@ impl Timeline {
         ensures first { result ≡ come_by now (first_due (nearest_from 0 self.old.threads) self.old.guest) }
         ensures rest { self.new ≡ taken_from result self.old }
     {
-        let due = come_by(now, first_due(self.first_thread(), self.guest));
-        if let Some((owner, _)) = due {
-            self.clear(owner);
+        match self.first() {
+            Some((first, due)) => {
+                if due > now {
+                    return None;
+                }
+                self.clear_place(first);
+                Some((owner_at(first), due))
+            }
+            None => None,
         }
-        due
     }
 
     /// No due.
     pub fn new(alloc: Global) -> Result<Timeline, NoMemory>
         ensures { IfOk result (λ t. t ≡ record { threads = replicate THREADS_LIMIT None; guest = None }) }
     {
-        match Vec::from_slice(alloc, &[None; THREADS_LIMIT as usize]) {
-            Ok(threads) => Ok(Timeline {
-                threads,
-                guest: None,
+        match Vec::from_slice(alloc, &[None; 65]) {
+            Ok(dues) => Ok(Timeline {
+                dues,
+                order: ArrayVec::new(),
             }),
             Err(_) => Err(NoMemory),
         }
@@ -177,10 +176,9 @@ impl Timeline {
         requires { IsOwner owner }
         ensures { self.new ≡ with_due owner (Some at) self.old }
     {
-        match owner {
-            Due::Thread(id) => self.threads[id as usize] = Some(at),
-            Due::Guest => self.guest = Some(at),
-        }
+        let place = place_of(owner);
+        self.clear_place(place);
+        self.set_place(place, at);
     }
 
     /// An owner has no due any more. A number from 64 on has none.
@@ -189,11 +187,13 @@ impl Timeline {
     {
         match owner {
             Due::Thread(id) => {
-                if u32::from(id) < THREADS_LIMIT {
-                    self.threads[id as usize] = None;
+                // Looked at so that the proof knows how many places there are.
+                let _dues = &self.dues;
+                if id < GUEST {
+                    self.clear_place(id);
                 }
             }
-            Due::Guest => self.guest = None,
+            Due::Guest => self.clear_place(GUEST),
         }
     }
 }

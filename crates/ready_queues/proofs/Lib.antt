@@ -1,0 +1,5 @@
+mod Bits
+mod Keys
+mod Links
+mod Lists
+mod Walks

@@ -1,0 +1,3 @@
+pub mod Linked
+pub mod Members
+pub mod PrioritySet

@@ -1,8 +1,0 @@
-use Rattle.std.proofs.Common.{rules}
-use Rattle.rt_ready.proofs.ready.goes_before.Goals as goal
-
-pub returns-then-a-b-2 : goal.returns-then-a-b-2
-returns-then-a-b-2 c = search rules
-
-pub returns-else-a-b-2 : goal.returns-else-a-b-2
-returns-else-a-b-2 c = search rules
