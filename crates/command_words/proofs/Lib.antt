@@ -1,3 +1,5 @@
 pub mod Arguments
 pub mod Computed
+pub mod Needed
+pub mod Simple
 pub mod Taken

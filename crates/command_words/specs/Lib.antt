@@ -1,5 +1,6 @@
 pub mod Values
 pub mod Command
 pub mod Run
+pub mod Make
 pub mod Parse
 pub mod Rows

@@ -1,6 +1,7 @@
--- Usual words behind `run`, and what they say.
+-- Usual words behind `run` and `make`, and what they say.
 use Rattle.std.specs.Prelude.{◌≡◌, Bool, true, false, [], ◌∷◌, codes, Option, Some, None}
 use Rattle.command_words.specs.Run.{AskedRun, run_words_of}
+use Rattle.command_words.specs.Make.{AskedMake, make_words_of}
 
 -- the system s.toml and 13 ticks, with the hardware's lines or without them
 abbrev pub thirteen : Bool → Option AskedRun
@@ -44,3 +45,35 @@ pub record RefusesOtherWords : Type 0 where
   pub shortened_flag : run_words_of (codes "s.toml" ∷ codes "--ticks" ∷ codes "13" ∷ codes "--hard" ∷ []) ≡ None
   pub flag_for_value : run_words_of (codes "s.toml" ∷ codes "--ticks" ∷ codes "--hardware" ∷ codes "13" ∷ []) ≡ None
   pub flag_after_dashes : run_words_of (codes "s.toml" ∷ codes "--ticks" ∷ codes "13" ∷ codes "--" ∷ codes "--hardware" ∷ []) ≡ None
+
+-- the number 7 and 13 ticks
+abbrev pub seven : Option AskedMake
+seven = Some (record { number = 7; ticks = codes "13" })
+
+-- the option behind `make` stands behind the number or before it, and its value in the next word or in the same one; the numbers
+-- are those of 32 bits, with leading zeros or without; that 0 ticks are too few isn't said by the words
+pub record ReadsUsualMakeWords : Type 0 where
+  pub behind : make_words_of (codes "7" ∷ codes "--ticks" ∷ codes "13" ∷ []) ≡ seven
+  pub before : make_words_of (codes "--ticks" ∷ codes "13" ∷ codes "7" ∷ []) ≡ seven
+  pub joined : make_words_of (codes "7" ∷ codes "--ticks=13" ∷ []) ≡ seven
+  pub zeros : make_words_of (codes "00000000000000000007" ∷ codes "--ticks" ∷ codes "13" ∷ []) ≡ seven
+  pub least : make_words_of (codes "0" ∷ codes "--ticks" ∷ codes "13" ∷ []) ≡ Some (record { number = 0; ticks = codes "13" })
+  pub greatest : make_words_of (codes "4294967295" ∷ codes "--ticks" ∷ codes "13" ∷ []) ≡ Some (record { number = 4294967295; ticks = codes "13" })
+  pub no_ticks : make_words_of (codes "7" ∷ codes "--ticks" ∷ codes "0" ∷ []) ≡ Some (record { number = 7; ticks = codes "0" })
+
+-- words of which none says a system to be made
+pub record RefusesOtherMakeWords : Type 0 where
+  pub nothing : make_words_of [] ≡ None
+  pub too_large : make_words_of (codes "4294967296" ∷ codes "--ticks" ∷ codes "1" ∷ []) ≡ None
+  pub too_long : make_words_of (codes "000000000000000000007" ∷ codes "--ticks" ∷ codes "1" ∷ []) ≡ None
+  pub no_digits : make_words_of (codes "1" ∷ codes "--ticks" ∷ codes "x" ∷ []) ≡ None
+  pub no_number : make_words_of (codes "seven" ∷ codes "--ticks" ∷ codes "1" ∷ []) ≡ None
+  pub hexadecimal : make_words_of (codes "0x7" ∷ codes "--ticks" ∷ codes "1" ∷ []) ≡ None
+  pub signed : make_words_of (codes "+7" ∷ codes "--ticks" ∷ codes "1" ∷ []) ≡ None
+  pub empty : make_words_of ([] ∷ codes "--ticks" ∷ codes "1" ∷ []) ≡ None
+  pub without_ticks : make_words_of (codes "7" ∷ []) ≡ None
+  pub without_number : make_words_of (codes "--ticks" ∷ codes "1" ∷ []) ≡ None
+  pub two_numbers : make_words_of (codes "7" ∷ codes "8" ∷ codes "--ticks" ∷ codes "1" ∷ []) ≡ None
+  pub two_options : make_words_of (codes "7" ∷ codes "--ticks" ∷ codes "1" ∷ codes "--ticks" ∷ codes "1" ∷ []) ≡ None
+  pub flag_of_run : make_words_of (codes "7" ∷ codes "--ticks" ∷ codes "1" ∷ codes "--hardware" ∷ []) ≡ None
+  pub help : make_words_of (codes "--help" ∷ []) ≡ None

@@ -6,10 +6,10 @@ use Rattle.std.specs.Str.{bytes_eq}
 use Rattle.clap.specs.Words.{Row, Text, first_of}
 use Rattle.outside_io.specs.Names.{is_name}
 use Rattle.command_words.specs.Values.{is_number}
-use Rattle.command_words.specs.Command.{is_taken, rows_read}
+use Rattle.command_words.specs.Command.{run_command, is_taken, rows_read}
 use Rattle.command_words.specs.declared.run.RunWords.{RunWords}
-use Rattle.command_words.specs.declared.run.WordsRefusal.{WordsRefusal}
-use Rattle.command_words.specs.declared.run.WordsRefusal.TheVariants.{Usage, NoMemory}
+use Rattle.command_words.specs.declared.parse.WordsRefusal.{WordsRefusal}
+use Rattle.command_words.specs.declared.parse.WordsRefusal.TheVariants.{Usage, NoMemory}
 
 -- the name of a system file, the word of the ticks, and whether the hardware's lines are asked for
 pub record AskedRun : Type 0 where
@@ -33,7 +33,7 @@ checked run = if is_name run.system && is_number run.ticks then Some run else No
 
 -- what the words behind `run` ask for, where the command takes them and both values are right
 unfoldable pub run_words_of : List (List ℕ) → Option AskedRun
-run_words_of words = if is_taken words then option_and_then checked (asked_in (rows_read words)) else None
+run_words_of words = if is_taken run_command words then option_and_then checked (asked_in (rows_read run_command words)) else None
 
 abbrev pub asked_by : RunWords → AskedRun
 asked_by words = record { system = words.system.now; ticks = words.ticks.now; hardware = words.hardware }
@@ -41,8 +41,8 @@ asked_by words = record { system = words.system.now; ticks = words.ticks.now; ha
 -- the values of words that the command takes, before they are checked; Usage exactly where it takes none, unless memory is
 -- refused
 abbrev pub ReadsValues : List (List ℕ) → Result RunWords WordsRefusal → Type 0
-ReadsValues words (Ok read) = (is_taken words ≡ true) × (asked_in (rows_read words) ≡ Some (asked_by read))
-ReadsValues words (Err Usage) = is_taken words ≡ false
+ReadsValues words (Ok read) = (is_taken run_command words ≡ true) × (asked_in (rows_read run_command words) ≡ Some (asked_by read))
+ReadsValues words (Err Usage) = is_taken run_command words ≡ false
 ReadsValues words (Err NoMemory) = Unit {0}
 
 -- a reader answers what the words ask for, and Usage exactly where they ask for nothing, unless memory is refused

@@ -1,15 +1,16 @@
 // The words behind `run`.
-ghost use Rattle.std.specs.Prelude.{◌≡◌, map, string_bytes, IfOk, IsTrue};
+ghost use Rattle.std.specs.Prelude.{◌≡◌, codes, map, string_bytes, IfOk, IsTrue};
 ghost use Rattle.clap.specs.Words.{first_value, found_of};
+ghost use Rattle.command_words.specs.Command.{run_command as run_app};
 ghost use Rattle.command_words.specs.Parse.{Parses};
 ghost use Rattle.outside_io.specs.Names.{is_name as name_test};
 ghost use Rattle.command_words.specs.Values.{is_number as number_test};
 ghost use Rattle.command_words.specs.Run.{run_words_of, is_true, ReadsRunWords, ReadsValues};
 
 use crate::command::run_command;
+use crate::parse::{WordsRefusal, parse_words};
 use crate::values::{is_name, is_number};
 use clap::ArgMatches;
-use clap::error::ErrorKind;
 use std::alloc::Global;
 
 /// What the words behind `run` ask for. Both texts are those of the words.
@@ -21,15 +22,6 @@ pub struct RunWords<'a> {
     pub ticks: &'a str,
     /// Whether the hardware's lines are asked for.
     pub hardware: bool,
-}
-
-/// Why words aren't taken.
-#[derive(Clone, Copy, Debug, PartialEq, Eq)]
-pub enum WordsRefusal {
-    /// They aren't the words of the command.
-    Usage,
-    /// Memory was refused.
-    NoMemory,
 }
 
 /// Reads the words behind `run`, `SYSTEM --ticks N` in either order, or with `--ticks=N`, and `--hardware` before, between
@@ -80,16 +72,12 @@ fn has_flag(matches: &ArgMatches<'_>, id: &str) -> bool
     }
 }
 
+// The parse of the words.
 fn parse<'a>(alloc: Global, words: &'a [String]) -> Result<ArgMatches<'a>, WordsRefusal>
-    ensures { Parses (map string_bytes words.entry.now) result }
+    ensures { Parses run_app (codes "system") (map string_bytes words.entry.now) result }
 {
-    let command = match run_command(alloc) {
-        Ok(command) => command,
-        Err(_) => return Err(WordsRefusal::NoMemory),
-    };
-    match command.try_get_matches_from(words) {
-        Ok(matches) => Ok(matches),
-        Err(fault) if fault.kind() == ErrorKind::OutOfMemory => Err(WordsRefusal::NoMemory),
-        Err(_) => Err(WordsRefusal::Usage),
+    match run_command(alloc) {
+        Ok(command) => parse_words(command, words),
+        Err(_) => Err(WordsRefusal::NoMemory),
     }
 }

@@ -1,7 +1,7 @@
 // The names and the numbers among the words.
 ghost use Rattle.std.specs.Prelude.{◌≡◌};
 ghost use Rattle.outside_io.specs.Names.{is_name as name_test};
-ghost use Rattle.command_words.specs.Values.{is_number as number_test, ticks_of};
+ghost use Rattle.command_words.specs.Values.{is_number as number_test, number_of, ticks_of};
 
 use line_text::{are_digits, read_decimal};
 use outside_io::NAME_LIMIT;
@@ -33,6 +33,23 @@ pub fn read_ticks(text: &[u8]) -> Option<u32>
     match read_decimal(text) {
         Some(n) => {
             if n >= 1 && n <= TICK_LIMIT {
+                Some(n as u32)
+            } else {
+                None
+            }
+        }
+        None => None,
+    }
+}
+
+/// The number that a system is made from: 1 to 20 decimal digits, with leading zeros or without, that write one from 0 to
+/// 4,294,967,295.
+pub fn read_number(text: &[u8]) -> Option<u32>
+    ensures { result ≡ number_of text.now }
+{
+    match read_decimal(text) {
+        Some(n) => {
+            if n <= u64::from(u32::MAX) {
                 Some(n as u32)
             } else {
                 None

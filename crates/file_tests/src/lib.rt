@@ -8,6 +8,8 @@ mod greeting;
 #[cfg(test)]
 mod images;
 #[cfg(test)]
+mod made;
+#[cfg(test)]
 mod memory;
 #[cfg(test)]
 mod modules;

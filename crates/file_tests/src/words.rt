@@ -1,5 +1,8 @@
-// Words behind `run`, and the names and numbers among them.
-use command_words::{RunWords, WordsRefusal, is_name, is_number, read_run_words, read_ticks};
+// Words behind `run` and `make`, and the names and numbers among them.
+use command_words::{
+    MakeWords, RunWords, WordsRefusal, is_name, is_number, read_make_words, read_run_words,
+    read_ticks,
+};
 use std::alloc::Global;
 use std::test::Fail;
 
@@ -20,13 +23,19 @@ s.toml --ticks 13 --hardware=true
 s.toml --ticks 13 --hard
 ";
 
-// Whether the words of a line are taken for the system s.toml and 13 ticks, with or without the hardware's lines, or why they
-// aren't taken.
-fn reading(alloc: Global, line: &str, hardware: bool) -> Result<Result<bool, WordsRefusal>, Fail> {
+// The words of a line.
+fn words_in(alloc: Global, line: &str) -> Result<Vec<String>, Fail> {
     let mut list = Vec::new(alloc);
     for word in line.split(' ') {
         list.push(String::from_str(alloc, word)?)?;
     }
+    Ok(list)
+}
+
+// Whether the words of a line are taken for the system s.toml and 13 ticks, with or without the hardware's lines, or why they
+// aren't taken.
+fn reading(alloc: Global, line: &str, hardware: bool) -> Result<Result<bool, WordsRefusal>, Fail> {
+    let list = words_in(alloc, line)?;
     let usual = RunWords {
         system: "s.toml",
         ticks: "13",
@@ -83,4 +92,21 @@ fn ticks_are_1_to_the_limit(rt: HostRuntime) {
     assert!(rt; is_number(b"00000000000000000013"));
     assert!(rt; !is_number(b"000000000000000000013"));
     assert_eq!(rt; read_ticks(b"1000000000"), Some(1_000_000_000));
+}
+
+// The rows of `make` are laws too (`reads_usual_make_words`, `refuses_other_make_words`): here each answer is given once.
+#[test]
+fn a_number_of_32_bits_is_taken_with_its_ticks(rt: HostRuntime) -> Result<(), Fail> {
+    let greatest = MakeWords {
+        number: 4_294_967_295,
+        ticks: "13",
+    };
+    let words = words_in(rt.alloc(), "4294967295 --ticks 13")?;
+    assert_eq!(rt; read_make_words(rt.alloc(), &words), Ok(greatest));
+    let words = words_in(rt.alloc(), "4294967296 --ticks 1")?;
+    assert_eq!(rt;
+        read_make_words(rt.alloc(), &words),
+        Err(WordsRefusal::Usage)
+    );
+    Ok(())
 }

@@ -2,6 +2,7 @@
 use Rattle.std.specs.Prelude.{ℕ, List, [], ◌++◌, length, drop}
 use Rattle.flat_memory.specs.Zeros.{zeros}
 use Rattle.run_files.specs.declared.run.AcceptedRun.{AcceptedRun}
+use Rattle.run_files.specs.declared.run.Report.TheVariants.{Lines}
 use Rattle.run_files.specs.declared.run.Shown.TheVariants.{Guest}
 use Rattle.run_files.specs.declared.sides.Sides.{Sides}
 use Rattle.run_files.specs.Stub.{stub_stored}
@@ -13,6 +14,6 @@ flat_sides image = record {
   entry = 0;
 }
 
--- its run, without modules or a script, in version 1 of the rule that picks, of which the guest's lines are shown
+-- its run, without modules or a script, in version 1 of the rule that picks, of which the guest's lines are shown and written
 abbrev pub flat_run : List ℕ → ℕ → AcceptedRun
-flat_run image ticks = record { sides = flat_sides image; inits = []; version = 1; script = record { events = [] }; ticks = ticks; shown = Guest }
+flat_run image ticks = record { sides = flat_sides image; inits = []; version = 1; script = record { events = [] }; ticks = ticks; shown = Guest; report = Lines }

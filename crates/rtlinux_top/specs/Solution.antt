@@ -14,7 +14,8 @@ use Rattle.run_files.specs.declared.run.AcceptedRun.{AcceptedRun}
 use Rattle.run_files.specs.declared.run.Shown.{Shown}
 use Rattle.run_files.specs.declared.run.Shown.TheVariants.{Guest, Both, WithHardware}
 use Rattle.run_files.specs.Verdict.{Verdict}
-use Rattle.run_stream.specs.Lines.{lines_shown, text_of}
+use Rattle.run_report.specs.Report.{text_by}
+use Rattle.run_stream.specs.Lines.{lines_shown}
 use Rattle.run_stream.specs.Ran.{guest_shown, real_shown}
 use Rattle.run_stream.specs.Start.{run_start}
 
@@ -54,11 +55,12 @@ HasHalves Both run lines g r = (found guest_in lines ≡ g) × (found real_time_
 HasHalves WithHardware run lines g r =
     (found guest_in lines ≡ g) × ((found real_time_in lines ≡ r) × (found hardware_in lines ≡ hardware (run_start run) run.ticks r (calls_of g)))
 
--- a pair of lines is the solution of a run, what was written is the text of what is shown of it, and in that each half finds its own
+-- a pair of lines is the solution of a run, in what is shown of it each half finds its own, and what was written is the text of that, or
+-- the three lines that sum just that up
 pub record IsWritten (run : AcceptedRun) (g : List (ℕ × GLine)) (r : List (ℕ × RLine)) (old new : Option (List ℕ)) : Type 0 where
   pub solution : IsSolution (run_start run) run.ticks g r
   pub halves : HasHalves run.shown run (shown_of run.shown run g r) g r
-  pub text : new ≡ appended old (text_of (shown_of run.shown run g r))
+  pub text : new ≡ appended old (text_by run.report run.ticks (shown_of run.shown run g r))
 
 -- for an accepted run that is so of the one pair of lines that meets both equations
 abbrev pub WritesSolution : Verdict → Option (List ℕ) → Option (List ℕ) → Type 0

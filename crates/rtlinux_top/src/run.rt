@@ -12,7 +12,8 @@ use crate::last::Last;
 use crate::status::{Device, Status};
 use outside_io::Sink;
 use run_files::AcceptedRun;
-use run_stream::{RunFault, run_streaming};
+use run_report::run_reported;
+use run_stream::RunFault;
 use std::alloc::Global;
 
 // The answer after all ticks.
@@ -28,7 +29,7 @@ fn status_after(breach: bool, fault: bool) -> Status
     }
 }
 
-/// Runs what was accepted and writes its lines. The machine is kept where all ticks ran and all was written.
+/// Runs what was accepted and writes its output. The machine is kept where all ticks ran and all was written.
 pub fn run_accepted<K: Sink>(
     alloc: Global,
     run: AcceptedRun,
@@ -49,7 +50,7 @@ pub fn run_accepted<K: Sink>(
     ensures others { (result ≢ Status.Usage) × (result ≢ Status.Outside Device.Read) × (result ≢ refused_of 40 0) }
 {
     *last = Last::Nothing;
-    match run_streaming(alloc, run, sink) {
+    match run_reported(alloc, run, sink) {
         Ok(finished) => {
             *last = Last::Ran(finished.machine);
             status_after(finished.breach, finished.fault)

@@ -9,6 +9,7 @@ use Rattle.run_files.specs.declared.sides.Sides.{Sides}
 use Rattle.run_files.specs.declared.modules.Loaded.{Loaded}
 use Rattle.device_script.specs.declared.script.Script.{Script}
 use Rattle.run_files.specs.declared.run.AcceptedRun.{AcceptedRun}
+use Rattle.run_files.specs.declared.run.Report.TheVariants.{Lines}
 use Rattle.run_files.specs.declared.run.Shown.{Shown}
 use Rattle.run_files.specs.declared.run.Shown.TheVariants.{Both, WithHardware}
 use Rattle.run_files.specs.declared.cause.Cause.{Cause}
@@ -52,11 +53,11 @@ abbrev pub shown_by : Bool → Shown
 shown_by false = Both
 shown_by true = WithHardware
 
--- the script, and with it the run, which has the version of the system
+-- the script, and with it the run, which has the version of the system, and of which each line is written
 abbrev pub script_verdict : System → Loaded → ℕ → Shown → Files → Verdict
 script_verdict system loaded ticks shown files =
     script_named files system.script
-    >>= λ script. Ok (record { sides = loaded.sides; inits = loaded.inits; version = system.version; script = script; ticks = ticks; shown = shown })
+    >>= λ script. Ok (record { sides = loaded.sides; inits = loaded.inits; version = system.version; script = script; ticks = ticks; shown = shown; report = Lines })
 
 -- the modules of these names, each on what those before it left
 abbrev pub modules_loaded : Files → Loaded → List (List ℕ) → Result Loaded About

@@ -15,7 +15,7 @@ pub use accept::{FILE_LIMIT, accept_image, accept_module, accept_script, accept_
 pub use cause::{Cause, Refusal, Subject, refused};
 pub use image::place_image;
 pub use line::refusal_line;
-pub use modules::{Loaded, reserve};
-pub use run::{AcceptedRun, Shown};
+pub use modules::{Loaded, load_module, reserve};
+pub use run::{AcceptedRun, Report, Shown};
 pub use sides::{Sides, make_sides};
 pub use stub::{STACK_SIZE, STUB, STUB_ROOM, reserved_spans, store_stub};

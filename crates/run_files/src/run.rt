@@ -4,7 +4,7 @@ use crate::sides::Sides;
 use device_script::Script;
 use item_list::Items;
 
-/// Which lines of a run are written.
+/// Which lines a run shows.
 #[derive(Clone, Copy, Debug, PartialEq, Eq)]
 pub enum Shown {
     /// The guest's lines, and its first end line.
@@ -13,6 +13,15 @@ pub enum Shown {
     Both,
     /// The lines of both halves with the hardware's between them, and all end lines.
     WithHardware,
+}
+
+/// What is written of the lines of a run.
+#[derive(Clone, Copy, Debug, PartialEq, Eq)]
+pub enum Report {
+    /// Each of them.
+    Lines,
+    /// Three lines that sum them up, with the number of which the system was made.
+    Summary(u32),
 }
 
 /// All that a run starts from.
@@ -28,6 +37,8 @@ pub struct AcceptedRun {
     pub script: Script,
     /// How many ticks are run.
     pub ticks: u32,
-    /// Which lines are written.
+    /// Which lines a run shows.
     pub shown: Shown,
+    /// What is written of the lines that it shows.
+    pub report: Report,
 }

@@ -12,7 +12,7 @@ use crate::modules::open_modules;
 use device_script::Script;
 use item_list::Items;
 use outside_io::Store;
-use run_files::{AcceptedRun, Loaded, Refusal, Shown, Sides};
+use run_files::{AcceptedRun, Loaded, Refusal, Report, Shown, Sides};
 use std::alloc::Global;
 use system_file::System;
 
@@ -127,6 +127,7 @@ fn open_behind_modules<S: Store>(
                 script: no_script(alloc),
                 ticks,
                 shown,
+                report: Report::Lines,
             });
         }
     };
@@ -138,6 +139,7 @@ fn open_behind_modules<S: Store>(
             script,
             ticks,
             shown,
+            report: Report::Lines,
         }),
         Err(refusal) => Err(refusal),
     }

@@ -4,4 +4,5 @@
 mod stream;
 mod write;
 
-pub use stream::{Finished, RunFault, run_streaming};
+pub use stream::{Finished, RunFault, boot, has_breach_by, has_fault_by, run_streaming};
+pub use write::{Printed, has_none};

@@ -42,8 +42,8 @@ fn any_breach(lines: &[GLine]) -> bool
     lines.iter().any(is_breach)
 }
 
-// Whether there was a breach before these lines or among them.
-fn has_breach_by(before: bool, lines: &[GLine]) -> bool
+/// Whether there was a breach before these lines or among them.
+pub fn has_breach_by(before: bool, lines: &[GLine]) -> bool
     ensures { result ≡ (before || list_any breach_of lines.now) }
 {
     before || any_breach(lines)
@@ -61,8 +61,8 @@ fn any_fault(lines: &[RLine]) -> bool
     lines.iter().any(is_fault)
 }
 
-// Whether there was a fault before these lines or among them, where they are shown.
-fn has_fault_by(before: bool, shown: Shown, lines: &[RLine]) -> bool
+/// Whether there was a fault before these lines or among them, where they are shown.
+pub fn has_fault_by(before: bool, shown: Shown, lines: &[RLine]) -> bool
     ensures { result ≡ (before || fault_shown shown lines.now) }
 {
     match shown {
@@ -95,8 +95,8 @@ fn tell<K: Sink>(
     write_tick(sink, tick, shown, lines)
 }
 
-// The machine of a run before its first tick.
-fn boot(alloc: Global, run: AcceptedRun) -> Result<Machine, NoMemory>
+/// The machine of a run before its first tick.
+pub fn boot(alloc: Global, run: AcceptedRun) -> Result<Machine, NoMemory>
     requires { IsReady run }
     ensures { IfOk result (λ machine. HasRunTo run 0 machine) }
 {

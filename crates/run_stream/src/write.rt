@@ -11,8 +11,8 @@ use rt_core::EndLines;
 use run_files::Shown;
 use trace_lines::{GLine, HLine, Lines, RLine, write_g, write_h, write_r};
 
-// A line of one half, which is printed.
-trait Printed {
+/// A line of one letter, which is printed.
+pub trait Printed {
     /// The line among those of both halves.
     ghost line: { Self → Line };
 

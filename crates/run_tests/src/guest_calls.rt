@@ -2,8 +2,9 @@
 // tests/guest_call_rows.py, whose ticks were counted by hand.
 //
 // A row has what it shows, the modules, the guest's image, the ticks with their flag, the status and the output.
-use crate::calls::{answer_of, field, has_come, hex_of};
+use crate::calls::{answer_of, bytes_of, field, has_come, hex_of};
 use crate::module_files::store_of;
+use rtlinux_top::{Device, Status};
 use std::alloc::Global;
 use std::test::Fail;
 
@@ -28,5 +29,50 @@ fn calls_of_the_guest_are_answered_in_their_tick(rt: HostRuntime) -> Result<(), 
     for row in CALLS.lines() {
         assert!(rt; row_holds(rt.alloc(), row)?, "{row}");
     }
+    Ok(())
+}
+
+// The put that fails, counted from 1, where so many of its bytes are taken: is all before it written, and that much of it, and is the answer
+// the put's fault?
+fn ends_at(alloc: Global, row: &str, put: u32, taken: usize, before: usize) -> Result<bool, Fail> {
+    let guest = hex_of(alloc, field(row, 2)?)?;
+    let store = store_of(alloc, "1", field(row, 1)?, guest.as_slice(), &[])?;
+    let words = format!(in alloc; "run s.toml --ticks {}", field(row, 3)?)?;
+    let answer = answer_of(
+        alloc,
+        words.as_str(),
+        store,
+        4000,
+        &[(put, taken.try_into().unwrap_or(0))],
+    )?;
+    let output = bytes_of(alloc, field(row, 5)?)?;
+    let wanted = output
+        .as_slice()
+        .get(..before.saturating_add(taken))
+        .ok_or("no such part")?;
+    Ok(
+        answer.status == Status::Outside(Device::Write)
+            && answer.sink.written() == wanted
+            && !answer.kept,
+    )
+}
+
+#[test]
+fn a_run_ends_at_each_put_that_fails(rt: HostRuntime) -> Result<(), Fail> {
+    let alloc = rt.alloc();
+    let row = CALLS.lines().next().ok_or("no row")?;
+    let mut before: usize = 0;
+    let mut put = 0u32;
+    for line in field(row, 5)?.split(';') {
+        if line.is_empty() {
+            continue;
+        }
+        put = put.saturating_add(1);
+        for taken in [0, 1, 5] {
+            assert!(rt; ends_at(alloc, row, put, taken, before)?, "{put} {taken}");
+        }
+        before = before.saturating_add(line.len()).saturating_add(1);
+    }
+    assert_eq!(rt; put, 20);
     Ok(())
 }

@@ -22,6 +22,8 @@ mod host;
 #[cfg(test)]
 mod images;
 #[cfg(test)]
+mod made;
+#[cfg(test)]
 mod module_files;
 #[cfg(test)]
 mod modules;

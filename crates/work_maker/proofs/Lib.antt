@@ -1,0 +1,4 @@
+pub mod Steps
+pub mod Fits
+pub mod Rules
+pub mod Computed
