@@ -39,11 +39,15 @@ ends() {
     [ ! -s "$work/error" ] || fail "'${*:2}' wrote to standard error"
 }
 
-# Runs the program with the words behind the file, and compares the whole output with that file.
+# Runs the program with the words behind the file, and compares the whole output with that file, and the status where one is given first.
 kept() {
-    ends 0 "${@:2}"
-    cmp "$work/output" "$1" || fail "the output of '${*:2}' differs from $1"
-    pass "the output of '${*:2}' is as kept in $1"
+    kept_ending 0 "$@"
+}
+
+kept_ending() {
+    ends "$1" "${@:3}"
+    cmp "$work/output" "$2" || fail "the output of '${*:3}' differs from $2"
+    pass "the output of '${*:3}' is as kept in $2"
 }
 
 # The words of the last line, G's end line of `flat`: letter, tick, end, mode, EIP, EFLAGS, EAX, ECX, EDX, EBX, ESP, EBP, ESI, EDI.
@@ -74,7 +78,7 @@ trace() {
 
 told() {
     if command -v python3 > /dev/null; then
-        python3 examples/check_trace.py "$1" < "$work/output" || fail "the trace of $1 isn't what its source says"
+        python3 "examples/${2:-check_trace}.py" "$1" < "$work/output" || fail "the trace of $1 isn't what its source says"
         pass "the trace of $1 is what its source says"
     else
         skip "no python3: whether the trace of $1 is what its source says"
@@ -91,26 +95,72 @@ shown() {
     pass "the lines that $1 shows are as kept"
 }
 
+# What a second machine says that a run of a system has to print: it is written from the documents, and its lines are all but H's.
+modelled() {
+    if command -v python3 > /dev/null; then
+        python3 examples/machine_model.py "$1" "$2" > "$work/modelled" || fail "the second machine doesn't run $1"
+        cmp <(grep -v '^H ' "$work/output") "$work/modelled" || fail "the second machine says something else of $1"
+        pass "the second machine says the same of $1"
+    else
+        skip "no python3: what the second machine says of $1"
+    fi
+}
+
 shown README.md first_steps
 for page in examples/*/README.md; do
-    shown "$page" "$(basename "$(dirname "$page")")"
+    [ "$page" = examples/labs/README.md ] || shown "$page" "$(basename "$(dirname "$page")")"
 done
 
 trace interrupts flat examples/interrupts/interrupts.bin 200
-trace first_steps run examples/first_steps/system.toml --ticks 1000
-trace shadow_and_halt run examples/shadow_and_halt/system.toml --ticks 2000
-trace serial_echo run examples/serial_echo/system.toml --ticks 2500
 trace transmit flat examples/transmit/transmit.bin 1600
-trace round_robin run examples/round_robin/system.toml --ticks 4000
-trace timer run examples/timer/system.toml --ticks 90000 --hardware
-trace threads run examples/threads/system.toml --ticks 6000
-trace control_loop run examples/control_loop/system.toml --ticks 26000
+
+# The example, the ticks, and more words.
+system_trace() {
+    trace "$1" run "examples/$1/system.toml" --ticks "$2" "${@:3}"
+    modelled "examples/$1/system.toml" "$2"
+}
+
+system_trace first_steps 1000
+system_trace shadow_and_halt 2000
+system_trace serial_echo 2500
+system_trace round_robin 4000
+system_trace timer 90000 --hardware
+system_trace threads 6000
+system_trace control_loop 26000
 
 # One module, and a system file for each version of the rule that picks among equal priorities.
 for version in 1 2; do
     kept "examples/versions/expected_$version" run "examples/versions/system_$version.toml" --ticks 1000
     told "versions_$version"
+    modelled "examples/versions/system_$version.toml" 1000
 done
+
+# Systems with modules: the status, the example, the ticks.
+module_trace() {
+    kept_ending "$1" "examples/$2/expected" run "examples/$2/system.toml" --ticks "$3"
+    told "$2" check_systems
+    modelled "examples/$2/system.toml" "$3"
+}
+
+module_trace 0 frank 10000
+module_trace 0 sensor_loop 19600
+module_trace 0 module_calls 12000
+module_trace 0 rate_monotonic 9000
+module_trace 0 lent_line 6200
+module_trace 4 faults 3000
+module_trace 3 breach 6000
+
+# One module beside three guests: the real-time lines are the same to the last byte.
+for guest in idle:0 storm:0 wild:3; do
+    name=${guest%:*}
+    kept_ending "${guest#*:}" "examples/worst_guest/expected_$name" run "examples/worst_guest/$name.toml" --ticks 6000
+    told "$name" check_systems
+    modelled "examples/worst_guest/$name.toml" 6000
+    grep '^R ' "$work/output" > "$work/real_time_$name"
+done
+cmp "$work/real_time_idle" "$work/real_time_storm" || fail "the real-time lines beside a storm differ from those beside an idle guest"
+cmp "$work/real_time_idle" "$work/real_time_wild" || fail "the real-time lines beside a wild guest differ from those beside an idle one"
+pass "the real-time lines are the same beside three guests"
 
 # A module whose lines say nothing of the guest below it: beside another kernel the real-time lines are the same.
 sed 's#examples/threads/kernel/image.elf#examples/first_steps/image.elf#' examples/threads/system.toml > "$work/other.toml"
@@ -244,14 +294,35 @@ rebuilt() {
     pass "the images are what their sources give"
 }
 
+# Each lab's solution is what its task asks for, and what is given isn't.
+labs() {
+    local lab status
+    for lab in examples/labs/*/; do
+        lab=$(basename "$lab")
+        examples/labs/lab.sh check "$program" "$lab" "examples/labs/$lab/solution" > "$work/lab" 2>&1 || fail "the solution of $lab: $(cat "$work/lab")"
+        status=0
+        examples/labs/lab.sh check "$program" "$lab" "examples/labs/$lab/start" > "$work/lab" 2>&1 || status=$?
+        [ "$status" = 1 ] && grep -q '^lab: ' "$work/lab" || fail "what is given for $lab ended its check with status $status: $(cat "$work/lab")"
+        pass "the solution of $lab is what its task asks for, and its start isn't"
+    done
+}
+
 compiler=$(gcc --version 2> /dev/null | head -n 1) || true
 linker=$(ld --version 2> /dev/null | head -n 1) || true
 if ! command -v make > /dev/null || ! command -v ar > /dev/null || [ -z "$linker" ]; then
-    skip "no make or no binutils: whether the images are what their sources give"
+    skip "no make or no binutils: the labs, and whether the images are what their sources give"
 elif ! echo 'int x;' | gcc -m32 -march=i386 -c -x c - -o "$work/try.o" 2> /dev/null; then
-    skip "no gcc -m32: whether the images are what their sources give"
-elif [ "$compiler, $linker" != "$(cat examples/compiler)" ]; then
-    skip "another compiler ($compiler, $linker): whether the images are what their sources give"
+    skip "no gcc -m32: the labs, and whether the images are what their sources give"
 else
-    rebuilt
+    if command -v python3 > /dev/null; then
+        labs
+        python3 examples/try_commands.py "$program" || fail "a page shows a command that doesn't end as it says"
+    else
+        skip "no python3: the labs, and the commands of the pages"
+    fi
+    if [ "$compiler, $linker" = "$(cat examples/compiler)" ]; then
+        rebuilt
+    else
+        skip "another compiler ($compiler, $linker): whether the images are what their sources give"
+    fi
 fi

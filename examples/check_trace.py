@@ -337,8 +337,8 @@ class ThreadsModule:
         for _ in range(sleeps):
             yield Gate(begins + 3, schedule_model.NANOSLEEP, (self.SLEEP,))
             yield self.say(4, "awake")
-            begins = 3
-        yield Return(3 + 3 + 2)
+            begins = 2
+        yield Return(2 + 4 + 2)
 
     def stuck(self, good_turns):
         begins = 3

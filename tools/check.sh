@@ -1,6 +1,7 @@
 #!/usr/bin/env bash
-# Tries the tools with a built program: their helps and errors, the examples' traces, damaged files, mistakes made on purpose, and the
-# guest that docs/GUESTS_IN_C.md writes. What isn't installed is skipped with a line.
+# Tries the tools with a built program: their helps and errors, the examples' traces as pictures, dumps, words and response times, the
+# commands of docs/PICTURES.md, damaged files, mistakes made on purpose, and the guest that docs/GUESTS_IN_C.md writes. What isn't installed is
+# skipped with a line.
 # usage: tools/check.sh PROGRAM
 set -euo pipefail
 if [ $# != 1 ] || [ ! -x "$1" ]; then
@@ -21,6 +22,10 @@ if ! python3 -c 'import sys; sys.exit(sys.version_info < (3, 8))' 2> /dev/null; 
 fi
 python3 tools/tests/check_clauses.py
 python3 tools/tests/check_traces.py "$program"
+python3 tools/tests/check_pictures.py
+python3 tools/tests/check_dumps.py
+python3 tools/tests/check_responses.py
+python3 tools/tests/check_pictures_page.py "$program"
 python3 tools/tests/check_explain.py "$program"
 
 for tool in make ld ar nm addr2line objdump; do

@@ -12,6 +12,7 @@ from common import command
 from common.elf_image import with_byte, written
 from common.guest import Guest, guest_of
 from common.program import Run, output_of
+from common.real_time import GUEST
 from common.states import Moment, moments
 from common.symbols import Symbols, symbols_of
 from common.system_file import read_system
@@ -22,7 +23,7 @@ CLI = 0xfa
 FIRST_LIMIT = 1_000
 EPILOG = """Each row has the tick, the address of the instruction that was performed in it with its name and source line, the instruction, the
 registers that have another value afterwards (EIP left out), and `memory` where the guest's memory has changed. Below it stand the
-lines that the program printed in that tick. Where no instruction was performed the row says so: (entry), (halted), (stopped).
+lines that the program printed in that tick. Where no instruction was performed the row says so: (entry), (halted), (stopped), or who of the real-time side is on.
 
 Names, lines and instructions are those of ELF, or of the file beside the image that ends in `.symbols`. They need binutils.
 Each row is a run of its own, from tick 1 on: a window late in a long run takes long.
@@ -133,7 +134,8 @@ def copied_system(system: str, image: str, folder: str) -> str:
     """A system file with another image."""
     fields, _ = read_system(system)
     lines = [f"version = {fields.version}", f"image = {json.dumps(image)}", f"guest_memory = {fields.guest_memory}",
-             f"real_time_memory = {fields.real_time_memory}"]
+             f"real_time_memory = {fields.real_time_memory}",
+             f"modules = [{', '.join(json.dumps(module, ensure_ascii=False) for module in fields.modules)}]"]
     if fields.script is not None:
         lines.append(f"script = {json.dumps(fields.script, ensure_ascii=False)}")
     name = os.path.join(folder, "system.toml")
@@ -146,6 +148,8 @@ def copied_system(system: str, image: str, folder: str) -> str:
 
 def performed(before: State, now: Moment, symbols: Symbols) -> str:
     """What the tick performed, by the state before it and its lines."""
+    if now.holder != GUEST:
+        return f"({now.holder} is on)"
     if any(line.kind == "enter" for line in now.lines):
         return "(entry)"
     if before.mode != "runs":

@@ -10,7 +10,7 @@ STACK(controller_stack, 512);
 static struct loop loop;
 
 /* Where the guest doesn't take the records, those that don't fit are lost, and the loop goes on. */
-static ENTRY void controller(unsigned argument) {
+static ENTRY void *controller(void *argument) {
     (void)argument;
     for (;;) {
         struct record record;
@@ -18,27 +18,31 @@ static ENTRY void controller(unsigned argument) {
         rtf_put(RECORDS, &record, sizeof record);
         pthread_wait_np();
     }
+    return NULL;
 }
 
 /* The guest has put something: the last of the set points counts. */
-static ENTRY void on_set_point(unsigned fifo) {
+static ENTRY int on_set_point(unsigned fifo) {
     int set_point;
     while (rtf_get(fifo, &set_point, sizeof set_point) == sizeof set_point) {
         loop.set_point = set_point;
     }
+    return 0;
 }
 
-static ENTRY void on_load(unsigned line) {
-    (void)line;
+static ENTRY unsigned on_load(unsigned irq, struct pt_regs *regs) {
+    (void)irq;
+    (void)regs;
     change_load(&loop);
+    return 0;
 }
 
-ENTRY void init(unsigned module) {
-    (void)module;
+int init_module(void) {
     rtf_create(RECORDS, RECORDS_SIZE);
     rtf_create(SET_POINTS, SET_POINTS_SIZE);
     rtf_create_handler(SET_POINTS, on_set_point);
     rtl_request_irq(LOAD_LINE, on_load);
-    int thread = pthread_create(controller, PRIORITY, STACK_TOP(controller_stack), 0);
-    pthread_make_periodic_np(thread, FIRST_TURN, TURN);
+    pthread_t thread;
+    pthread_create(&thread, WITH(controller_stack, PRIORITY), controller, NULL);
+    return -pthread_make_periodic_np(thread, FIRST_TURN, TURN);
 }

@@ -1,7 +1,7 @@
-/* A module, an ELF image on the real-time side. It stands at 11000h, which is right beside a guest's memory of 65,536 bytes; for another
-   place PLACE is given to make. All of it lies from 16 bytes above guest_memory to 4,096 below the end of real_time_memory. */
+/* A module, an ELF image on the real-time side. Its one parameter is its first address, MODULE_PLACE: 11000h, which is right beside a guest's
+   memory of 65,536 bytes, where none is given; PLACE of make gives another. All of it lies from 16 bytes above guest_memory to 4,096 below the end of real_time_memory. */
 OUTPUT_FORMAT("elf32-i386")
-ENTRY(init)
+ENTRY(init_module)
 PHDRS { module PT_LOAD FLAGS(7); }
 SECTIONS
 {

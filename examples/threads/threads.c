@@ -30,57 +30,61 @@ static inline void work(unsigned ticks) {
     __asm__ volatile("0: loop 0b" : "+c"(ticks));
 }
 
-static ENTRY void periodic(unsigned ticks) {
+static ENTRY void *periodic(void *ticks) {
     for (;;) {
-        work(ticks);
+        work((unsigned)ticks);
         pthread_wait_np();
     }
+    return NULL;
 }
 
 /* Works, and looks in each turn but the first whether the watched thread has finished a turn since the last one. */
-static ENTRY void slow(unsigned watched) {
+static ENTRY void *slow(void *watched) {
     int watching = 1;
     unsigned seen = beats - 1;
     for (;;) {
         work(SLOW_WORK);
         if (watching && beats == seen) {
-            pthread_delete_np(watched);
+            pthread_delete_np((pthread_t)watched);
             rtl_print(stuck_text, sizeof stuck_text - 1);
             watching = 0;
         }
         seen = beats;
         pthread_wait_np();
     }
+    return NULL;
 }
 
 /* Its return deletes it. */
-static ENTRY void sleeper(unsigned sleeps) {
-    while (sleeps-- > 0) {
-        nanosleep(SLEEP);
+static ENTRY void *sleeper(void *sleeps) {
+    for (unsigned left = (unsigned)sleeps; left-- > 0;) {
+        nanosleep(&(struct timespec){SLEEP}, NULL);
         rtl_print(awake_text, sizeof awake_text - 1);
     }
+    return NULL;
 }
 
-static ENTRY void stuck(unsigned good_turns) {
-    for (;;) {
-        if (good_turns-- == 0) {
+static ENTRY void *stuck(void *good_turns) {
+    for (unsigned good = (unsigned)good_turns;;) {
+        if (good-- == 0) {
             while (answer == 0) {
             }
         }
         beats++;
         pthread_wait_np();
     }
+    return NULL;
 }
 
-ENTRY void init(unsigned module) {
-    (void)module;
-    int fast_thread = pthread_create(periodic, FAST_PRIORITY, STACK_TOP(fast_stack), FAST_WORK);
-    int middle_thread = pthread_create(periodic, MIDDLE_PRIORITY, STACK_TOP(middle_stack), MIDDLE_WORK);
-    int stuck_thread = pthread_create(stuck, STUCK_PRIORITY, STACK_TOP(stuck_stack), 2);
-    int slow_thread = pthread_create(slow, SLOW_PRIORITY, STACK_TOP(slow_stack), stuck_thread);
-    pthread_create(sleeper, SLEEPER_PRIORITY, STACK_TOP(sleeper_stack), SLEEPS);
+int init_module(void) {
+    pthread_t fast_thread, middle_thread, stuck_thread, slow_thread, sleeper_thread;
+    pthread_create(&fast_thread, WITH(fast_stack, FAST_PRIORITY), periodic, (void *)FAST_WORK);
+    pthread_create(&middle_thread, WITH(middle_stack, MIDDLE_PRIORITY), periodic, (void *)MIDDLE_WORK);
+    pthread_create(&stuck_thread, WITH(stuck_stack, STUCK_PRIORITY), stuck, (void *)2);
+    pthread_create(&slow_thread, WITH(slow_stack, SLOW_PRIORITY), slow, (void *)stuck_thread);
+    pthread_create(&sleeper_thread, WITH(sleeper_stack, SLEEPER_PRIORITY), sleeper, (void *)SLEEPS);
     pthread_make_periodic_np(fast_thread, START, FAST_PERIOD);
     pthread_make_periodic_np(middle_thread, START, MIDDLE_PERIOD);
     pthread_make_periodic_np(slow_thread, START, SLOW_PERIOD);
-    pthread_make_periodic_np(stuck_thread, STUCK_START, STUCK_PERIOD);
+    return -pthread_make_periodic_np(stuck_thread, STUCK_START, STUCK_PERIOD);
 }

@@ -14,25 +14,27 @@ static inline void work(unsigned ticks) {
     __asm__ volatile("0: loop 0b" : "+c"(ticks));
 }
 
-static ENTRY void sampler(unsigned ticks) {
-    for (;;) {
+static ENTRY void *sampler(void *first) {
+    for (unsigned ticks = (unsigned)first;;) {
         work(ticks);
         ticks = SAMPLER_WORK;
         pthread_wait_np();
     }
+    return NULL;
 }
 
-static ENTRY void reporter(unsigned ticks) {
+static ENTRY void *reporter(void *ticks) {
     for (;;) {
-        work(ticks);
+        work((unsigned)ticks);
         pthread_wait_np();
     }
+    return NULL;
 }
 
-ENTRY void init(unsigned module) {
-    (void)module;
-    int sampling = pthread_create(sampler, PRIORITY, STACK_TOP(sampler_stack), FIRST_WORK);
-    int reporting = pthread_create(reporter, PRIORITY, STACK_TOP(reporter_stack), REPORTER_WORK);
+int init_module(void) {
+    pthread_t sampling, reporting;
+    pthread_create(&sampling, WITH(sampler_stack, PRIORITY), sampler, (void *)FIRST_WORK);
+    pthread_create(&reporting, WITH(reporter_stack, PRIORITY), reporter, (void *)REPORTER_WORK);
     pthread_make_periodic_np(sampling, SAMPLER_START, SAMPLER_PERIOD);
-    pthread_make_periodic_np(reporting, REPORTER_START, REPORTER_PERIOD);
+    return -pthread_make_periodic_np(reporting, REPORTER_START, REPORTER_PERIOD);
 }

@@ -27,6 +27,15 @@ def positive(text: str) -> int:
     return number
 
 
+def write(name: str, text: str) -> None:
+    """Writes a file; one that can't be written ends the tool."""
+    try:
+        with open(name, "w", encoding="utf-8", newline="\n") as file:
+            file.write(text)
+    except OSError as error:
+        fail(f"{name}: {error.strerror}")
+
+
 def run(main: Callable[[], int]) -> NoReturn:
     """Calls a tool's main, whose answer is the status. A reader that has closed the pipe is no error."""
     sys.stdout.reconfigure(errors="backslashreplace")

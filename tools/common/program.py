@@ -8,6 +8,10 @@ from typing import List, NamedTuple
 from . import command
 
 
+# All ticks ran: without a breach or a fault, with a breach, with a fault of the real-time side.
+RAN = (0, 3, 4)
+
+
 class Run(NamedTuple):
     """A program and what it runs: a system file, with the hardware's lines or without them, or a flat image."""
     program: str
@@ -30,7 +34,7 @@ def output_of(run: Run, ticks: int) -> List[str]:
     except OSError as error:
         command.fail(f"{run.program}: {error.strerror}")
     lines = done.stdout.decode("utf-8", "replace").splitlines()
-    if done.returncode not in (0, 3):
+    if done.returncode not in RAN:
         said = f": {lines[0]}" if lines else ""
         command.fail(f"the program ended with status {done.returncode}{said}"
                      + ("; tools/explain.py says why" if said.startswith(": E ") else ""))

@@ -7,15 +7,18 @@ from typing import Dict, Iterable, List, NamedTuple, Optional
 
 from . import command
 from .program import Run, output_of
+from .real_time import GUEST
 from .trace import Line, State, TraceError, lines_of, state_of
 
 
 class Moment(NamedTuple):
-    """What stands at the end of a tick: the lines that were printed in it, the state, and the digest of memory, if it is printed."""
+    """What stands at the end of a tick: the lines that were printed in it, the guest's state, the digest of its memory, if it is printed, and
+    who was on the processor."""
     tick: int
     lines: List[Line]
     state: State
     memory: Optional[str]
+    holder: str
 
 
 def moment(run: Run, tick: int) -> Moment:
@@ -28,7 +31,8 @@ def moment(run: Run, tick: int) -> Moment:
     if not ends:
         command.fail(f"{run.program} printed no end line")
     said = [line for line in lines if line.tick == tick and line.kind not in ("end", "memory")]
-    return Moment(tick, said, state_of(ends[0]), memories[0] if memories else None)
+    holders = [" ".join(line.words) for line in lines if line.kind == "on"]
+    return Moment(tick, said, state_of(ends[0]), memories[0] if memories else None, holders[-1] if holders else GUEST)
 
 
 def moments(run: Run, ticks: Iterable[int]) -> Dict[int, Moment]:

@@ -12,12 +12,16 @@ from typing import Dict, Iterable, List, Optional, Tuple
 from . import command
 
 
-class Symbols:
-    """The names of a file; none where there is no file."""
+# The letters of `nm` for names of code and of data. A name of the linker's script is neither.
+CODE, DATA = "tTwW", "dDbBrRvV"
 
-    def __init__(self, file: Optional[str] = None):
+
+class Symbols:
+    """The names of a file, of code alone or of data too; none where there is no file."""
+
+    def __init__(self, file: Optional[str] = None, letters: str = CODE):
         self.file = file
-        self.names: List[Tuple[int, str]] = sorted(names_of(file)) if file else []
+        self.names: List[Tuple[int, str]] = sorted(names_of(file, letters)) if file else []
         self.places = [place for place, _ in self.names]
         self.sources: Dict[int, str] = {}
         self.code: Optional[Dict[int, str]] = None
@@ -65,15 +69,14 @@ def output(words: List[str]) -> List[str]:
     return subprocess.run(words, stdout=subprocess.PIPE, stderr=subprocess.DEVNULL, check=False).stdout.decode("utf-8", "replace").splitlines()
 
 
-def names_of(file: str) -> Iterable[Tuple[int, str]]:
+def names_of(file: str, letters: str) -> Iterable[Tuple[int, str]]:
     if not os.path.isfile(file):
         command.fail(f"{file}: no such file")
     if not shutil.which("nm"):
         return
     for line in output(["nm", file]):
         words = line.split()
-        # Names of code; a name of the linker's script or of data is no place of code.
-        if len(words) == 3 and words[1] in "tTwW" and not words[2].startswith("."):
+        if len(words) == 3 and words[1] in letters and not words[2].startswith("."):
             yield int(words[0], 16), words[2]
 
 

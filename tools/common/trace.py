@@ -4,7 +4,7 @@ from __future__ import annotations
 import re
 from typing import Dict, Iterable, Iterator, List, NamedTuple, Tuple
 
-BYTE, WORD, BYTES, NUMBER, DIGEST = "[0-9a-f]{2}", "[0-9a-f]{8}", "(?:-|(?:[0-9a-f]{2})+)", "[0-9]+", "[0-9a-f]{64}"
+BYTE, WORD, BYTES, NUMBER, DIGEST = "[0-9a-f]{2}", "[0-9a-f]{8}", "(?:-|(?:[0-9a-f]{2})+)", "[0-9]{1,10}", "[0-9a-f]{64}"
 WHO = f"(?:guest|thread {NUMBER}|init {NUMBER}|irq {NUMBER}|fifo {NUMBER})"
 FAULT = "(?:divide|opcode|int|memory|port|privileged)"
 BREACH = f"(?:cli|sti|iret|pushf|popf|hlt|int {NUMBER}|port [0-9a-f]{{4}}|(?:fetch|load|store) {WORD})"

@@ -46,6 +46,7 @@ def read_trace(words: argparse.Namespace) -> List[Line]:
                 command.fail("with --run give --ticks N")
             return list(lines_of(output_of(run_named(words), words.ticks)))
         if words.trace == "-":
+            sys.stdin.reconfigure(encoding="utf-8", errors="replace")
             return list(lines_of(sys.stdin))
         with open(words.trace, encoding="utf-8", errors="replace") as file:
             return list(lines_of(file))

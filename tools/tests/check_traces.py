@@ -1,56 +1,24 @@
 #!/usr/bin/env python3
-"""Tries the tools that read traces on the examples' traces and on one of a real-time side, with what these say by themselves, and asks
-each tool for its errors.
+"""Tries annotate, steps and script_recipes on the examples' traces and on one of a real-time side, with what these say by themselves, and asks
+each tool for its help and its errors.
 usage: check_traces.py PROGRAM"""
 from __future__ import annotations
 
 import os
 import re
 import shutil
+import struct
 import subprocess
 import sys
 import tempfile
 import xml.etree.ElementTree
-from typing import List
 
-TOP = os.path.realpath(os.path.join(os.path.dirname(__file__), "..", ".."))
-TOOLS = ["explain", "steps", "annotate", "schedule_picture", "trace_vcd", "script_recipes"]
-TRACES = ["examples/first_steps/expected", "examples/shadow_and_halt/expected", "examples/serial_echo/expected",
-          "examples/round_robin/expected", "examples/timer/expected", "examples/transmit/expected", "examples/interrupts/expected",
-          "examples/threads/expected", "examples/control_loop/expected", "examples/versions/expected_1", "examples/versions/expected_2",
-          "tools/tests/real_time.trace"]
+from common_test import REAL_TIME, TOP, equal, fail, has, passed, tool, traces
+
+TOOLS = ["explain", "steps", "annotate", "schedule_picture", "trace_vcd", "response_times", "script_recipes"]
+READERS = ["annotate", "schedule_picture", "trace_vcd", "response_times"]
 HARDWARE = "examples/timer/expected"
 SVG = "{http://www.w3.org/2000/svg}"
-WITHOUT_A_MARK = ("on", "halt", "end", "memory", "reply")
-
-
-def fail(what: str) -> None:
-    sys.exit(f"tools: {what}")
-
-
-def passed(what: str) -> None:
-    print(f"tools: {what}")
-
-
-def tool(name: str, *words: str, status: int = 0, stdin: str = "") -> str:
-    """What a tool writes, to standard output where its status is 0, and else to standard error."""
-    done = subprocess.run([sys.executable, f"tools/{name}.py", *words], input=stdin.encode(), stdout=subprocess.PIPE,
-                          stderr=subprocess.PIPE, check=False)
-    if done.returncode != status:
-        fail(f"{name} {' '.join(words)} ended with {done.returncode}, not {status}: {done.stderr.decode()}")
-    if b"Traceback" in done.stderr:
-        fail(f"{name} {' '.join(words)}: {done.stderr.decode()}")
-    return (done.stdout if status == 0 else done.stdout + done.stderr).decode()
-
-
-def has(output: str, words: str, what: str) -> None:
-    if words not in output:
-        fail(f"{what} doesn't say '{words}' but\n{output}")
-
-
-def lines_of(trace: str) -> List[List[str]]:
-    with open(trace, encoding="utf-8") as file:
-        return [line.split() for line in file]
 
 
 def check_help() -> None:
@@ -59,84 +27,70 @@ def check_help() -> None:
     passed("each tool has its --help")
 
 
-def check_pictures() -> None:
-    """A picture has a stroke for each line with a mark, and who was on the processor."""
-    for trace in TRACES:
-        root = xml.etree.ElementTree.fromstring(tool("schedule_picture", trace))
-        lines = lines_of(trace)
-        strokes = [line.find(f"{SVG}title").text for line in root.iter(f"{SVG}line") if line.find(f"{SVG}title") is not None]
-        wanted = [" ".join(words) for words in lines if words[2] not in WITHOUT_A_MARK]
-        if strokes != wanted:
-            fail(f"the picture of {trace} has {len(strokes)} marks, not {len(wanted)}")
-        rows = {text.text for text in root.iter(f"{SVG}text")}
-        holders = {"on " + " ".join(words[3:]) for words in lines if words[2] == "on"} or {"on guest"}
-        if not holders <= rows:
-            fail(f"the picture of {trace} has no row {holders - rows}")
-    window = tool("schedule_picture", "tools/tests/real_time.trace", "--from", "20", "--to", "30")
-    has(window, "on thread 0: on, ticks 20 to 24", "the window's picture")
-    passed(f"the pictures of {len(TRACES)} traces have all their lines")
-
-
-def check_png(folder: str) -> None:
-    if subprocess.run([sys.executable, "-c", "import matplotlib"], stderr=subprocess.DEVNULL, check=False).returncode:
-        has(tool("schedule_picture", TRACES[0], "-o", f"{folder}/picture.png", status=2), "python3-matplotlib", "schedule_picture")
-        passed("skipped, no python3-matplotlib for this python3: a picture as PNG")
-        return
-    tool("schedule_picture", "tools/tests/real_time.trace", "-o", f"{folder}/picture.png")
-    with open(f"{folder}/picture.png", "rb") as file:
-        if file.read(8) != b"\x89PNG\r\n\x1a\n":
-            fail("the picture is no PNG")
-    passed("a picture is drawn as PNG")
-
-
-def check_dumps(folder: str) -> None:
-    """A dump has an event for each byte and each entry; GTKWave's own reader takes it."""
-    for number, trace in enumerate(TRACES):
-        dump = f"{folder}/{number}.vcd"
-        tool("trace_vcd", trace, "-o", dump)
-        with open(dump, encoding="utf-8") as file:
-            text = file.read()
-        for kind in ("com1", "com2", "enter", "gate"):
-            wanted = sum(words[2] == kind for words in lines_of(trace))
-            declared = re.search(rf"\$var event 1 (\S+) on_{kind} ", text)
-            found = len(re.findall(rf"^1{re.escape(declared.group(1))}$", text, re.M)) if declared else 0
-            if found != wanted:
-                fail(f"the dump of {trace} has {found} events of {kind}, not {wanted}")
-        if shutil.which("vcd2fst") and subprocess.run(["vcd2fst", dump, f"{dump}.fst"], stdout=subprocess.DEVNULL, check=False).returncode:
-            fail(f"vcd2fst doesn't read the dump of {trace}")
-    passed(f"the dumps of {len(TRACES)} traces have their events" + (", and vcd2fst reads them" if shutil.which("vcd2fst") else ""))
-    if not shutil.which("vcd2fst"):
-        passed("skipped, no vcd2fst, of gtkwave: whether it reads the dumps")
-
-
 def check_annotations() -> None:
     """Each line of a trace is there, in order, beside what is known of it."""
-    for trace in TRACES:
+    for trace in traces():
         output = tool("annotate", trace)
         with open(trace, encoding="utf-8") as file:
             if [line for line in output.splitlines() if not line.startswith("    -> ")] != file.read().splitlines():
                 fail(f"annotate changes the lines of {trace}")
-    output = tool("annotate", "tools/tests/real_time.trace")
-    has(output, "pthread_make_periodic(thread 0, start 20, period 30) = 0", "annotate")
-    has(output, "pthread_wait() = EINVAL (-22)", "annotate")
-    passed(f"annotate keeps the lines of {len(TRACES)} traces")
+    output = tool("annotate", REAL_TIME)
+    for wanted in ("    -> init 0: pthread_make_periodic(thread 0, start 20, period 30) = 0",
+                   "R 24 gate 7 00000000 00000000 00000000 00000000 0\n    -> thread 0: pthread_wait() = 0\n    -> it waits until 50",
+                   "irq 7: pthread_wait() = EINVAL (-22)",
+                   "R 27 fault thread 1 divide\n    -> a division by 0, or a quotient that doesn't fit; it is deleted\n"
+                   "    -> its last gate was print(place 00012000, count 2) = 0, in 18",
+                   "R 52 release 0\n    -> 2 ticks late: its due was 50, and an init, a handler or a thread without interrupts was on"):
+        has(output, wanted, "annotate")
+    passed(f"annotate keeps the lines of {len(traces())} traces")
+
+
+def faulting(folder: str, guest: str) -> str:
+    """A system file with a module whose init, at 11000h, makes a thread at 11020h; the thread divides by EAX, which is 0, its argument."""
+    def gate(function: int, *registers: int) -> bytes:
+        # MOV of EBX, ECX, EDX, ESI and EAX, and INT F8h.
+        return b"".join(bytes([opcode]) + struct.pack("<I", value) for opcode, value in zip((0xbb, 0xb9, 0xba, 0xbe), registers)) \
+            + b"\xb8" + struct.pack("<I", function) + b"\xcd\xf8"
+    code = (gate(2, 0x11020, 10, 0x12000, 0) + b"\xc3").ljust(0x20, b"\x90") + b"\xf7\xf0"
+    header = struct.pack("<16sHHIIIIIHHHHHH", b"\x7fELF\1\1\1", 2, 3, 1, 0x11000, 52, 0, 0, 52, 32, 1, 0, 0, 0)
+    with open(f"{folder}/fault.elf", "wb") as file:
+        file.write(header + struct.pack("<8I", 1, 84, 0x11000, 0, len(code), 0x1000, 7, 1) + code)
+    with open(f"{folder}/fault.toml", "w", encoding="utf-8") as file:
+        file.write(f'version = 1\nimage = "{guest}"\nguest_memory = 65536\nreal_time_memory = 65536\nmodules = ["{folder}/fault.elf"]\n')
+    return f"{folder}/fault.toml"
+
+
+def check_modules(program: str, folder: str) -> None:
+    """Names of a module stand beside gates and faults, and a run with a fault, whose status is 4, is read as any other."""
+    system = faulting(folder, "examples/first_steps/image.elf")
+    run = ("--run", program, "--system", system, "--ticks", "60")
+    has(tool("annotate", *run), "R 9 fault thread 0 divide\n    -> a division by 0, or a quotient that doesn't fit; it is deleted\n"
+        "    -> it had no gate before, and was on from 9 on", "annotate")
+    has(tool("response_times", *run), "\n     0     6        10       -         0      0        -     -       0        0     0           0\n",
+        "response_times")
+    has(tool("steps", program, system, "5", "10"), "(thread 0 is on)\n         R 9 on thread 0\n         R 9 fault thread 0 divide", "steps")
+    has(tool("steps", program, system, "--until-eip", "1009", "--before", "1"), "      11 00001009", "steps --until-eip")
+    if shutil.which("nm") and shutil.which("addr2line"):
+        output = tool("annotate", "examples/threads/expected", "--system", "examples/threads/system.toml")
+        created = re.search(r"    -> init 0 \(init\w*\): pthread_create\(entry (\w{8}) (\w+), priority \d+, stack top \w{8} \w+_stack, "
+                            r"argument \w{8}\) = 0\n    -> entry (\w+) examples/threads/threads.c:\d+\n", output)
+        if not created or created.group(2) != created.group(3):
+            fail(f"annotate doesn't name the first thread of threads, its entry and its stack, but says\n{output[:600]}")
+        names = subprocess.run(["nm", "examples/threads/module.symbols"], stdout=subprocess.PIPE, check=True).stdout.decode().splitlines()
+        equal("the place of that entry", [line.split()[0] for line in names if line.split()[2] == created.group(2)], [created.group(1)])
+        has(output, f"    -> thread 0 ({created.group(2)}): pthread_wait() = 0", "annotate")
+        has(output, "awake_text, count 5) = 0", "annotate")
+        has(tool("response_times", "examples/threads/expected", "--module", "examples/threads/module.symbols"), f"  {created.group(2)}\n",
+            "response_times")
+    passed("modules have their names beside gates and faults, and a run with a fault is read")
 
 
 def check_hardware(program: str) -> None:
     """Lines of the hardware are shown by each tool that reads traces, and asked for by --hardware."""
-    lines = [words for words in lines_of(HARDWARE) if words[0] == "H"]
     output = tool("annotate", HARDWARE)
     has(output, "H 50 set 399\n    -> line 0 rises in tick 250", "annotate")
     has(output, "H 12620 set 65535\n    -> line 0 rises in tick 45388", "annotate")
     has(output, "H 250 edge 0\n    -> the timer", "annotate")
-    text = tool("trace_vcd", HARDWARE)
-    for name, kind in (("on_edge_0", "edge"), ("on_ack_0", "ack"), ("on_set", "set")):
-        declared = re.search(rf"\$var event 1 (\S+) {name} ", text)
-        found = len(re.findall(rf"^1{re.escape(declared.group(1))}$", text, re.M)) if declared else 0
-        wanted = sum(words[2] == kind for words in lines)
-        if found != wanted:
-            fail(f"the dump of {HARDWARE} has {found} events {name}, not {wanted}")
-    has(text, f"b{399:b} ", "the dump's one-shot")
     rows = {row.text for row in xml.etree.ElementTree.fromstring(tool("schedule_picture", HARDWARE)).iter(f"{SVG}text")}
     if not {"edge 0", "ack 0", "set"} <= rows:
         fail(f"the picture of {HARDWARE} has no rows for the hardware")
@@ -196,13 +150,20 @@ def check_recipes(program: str, folder: str) -> None:
 
 def check_errors(program: str) -> None:
     """What can't be read is said in a line, with status 2."""
-    for name in ("annotate", "schedule_picture", "trace_vcd"):
+    for name in READERS:
         has(tool(name, "absent.trace", status=2), "absent.trace: No such file", name)
-        has(tool(name, status=2, stdin="G 1 halt\nG 2 halts\n"), "line 2: this is no line of a trace: 'G 2 halts'", name)
-        has(tool(name, status=2, stdin="G 2 halt\nG 1 halt\n"), "line 2: tick 1 stands behind tick 2", name)
-        has(tool(name, status=2, stdin="E 21 image.elf\n"), "the program refused its words or its files", name)
+        has(tool(name, "examples", status=2), "examples: Is a directory", name)
+        for broken in (b"G 2 halts", b"R 2 gate 7 00000000", b"R 2 release", b"R 2 release " + b"9" * 5000, b"R 2 on thread", b"", b"G  2 halt", b"G -2 halt",
+                       b"H 2 set \xff", b"R 2 fault guest divide zero", b"X 2 halt", b"G 99999999999 halt"):
+            said = tool(name, status=2, stdin=b"G 1 halt\n" + broken + b"\nG 3 halt\n")
+            has(said, f"{name}.py: line 2: this is no line of a trace: '{broken[:80].decode('ascii', 'ignore')}", name)
+            equal(f"the lines that {name} says", len(said.splitlines()), 1)
+        has(tool(name, status=2, stdin=b"G 2 halt\nG 1 halt\n"), "line 2: tick 1 stands behind tick 2", name)
+        has(tool(name, status=2, stdin=b"E 21 image.elf\n"), "the program refused its words or its files", name)
         has(tool(name, "--run", program, "--system", "absent.toml", "--ticks", "5", status=2), "E read absent.toml", name)
         has(tool(name, "--run", program, "--ticks", "5", status=2), "give --system SYSTEM or --flat IMAGE", name)
+    for name in ("schedule_picture", "trace_vcd"):
+        has(tool(name, HARDWARE, "-o", "absent/file.svg", status=2), "absent/file.svg: No such file", name)
     system = "examples/first_steps/system.toml"
     for words, said in ((["5"], "give FROM and TO"), (["5", "4"], "5 to 4 are no ticks"), (["--until", "breach", "--ticks", "50"], "no line"),
                         (["--until-eip", "nowhere"], "'nowhere' is no name"), (["--until-eip", "2000", "--ticks", "50"], "isn't performed")):
@@ -211,7 +172,10 @@ def check_errors(program: str) -> None:
     has(tool("explain", "absent.toml", status=2), "E read absent.toml", "explain")
     has(tool("script_recipes", "clock", "4", "100", status=2), "4 is no line of a script", "script_recipes")
     has(tool("script_recipes", "join", "absent", status=2), "absent: it can't be read", "script_recipes")
-    has(tool("schedule_picture", TRACES[0], "-o", "picture.jpg", status=2), "FILE.svg or FILE.png", "schedule_picture")
+    has(tool("schedule_picture", HARDWARE, "-o", "picture.jpg", status=2), "FILE.svg or FILE.png", "schedule_picture")
+    has(tool("schedule_picture", HARDWARE, "--rows", "threads", status=2), "no rows of the kinds threads, but guest, edge", "schedule_picture")
+    has(tool("schedule_picture", HARDWARE, "--width", "100", status=2), "100 isn't 600 to 8000", "schedule_picture")
+    has(tool("schedule_picture", HARDWARE, "--from", "90001", status=2), "nothing in the ticks 90001 to 90000", "schedule_picture")
     passed("each tool says in words what it can't read")
 
 
@@ -222,10 +186,8 @@ def main() -> None:
     os.chdir(TOP)
     with tempfile.TemporaryDirectory() as folder:
         check_help()
-        check_pictures()
-        check_png(folder)
-        check_dumps(folder)
         check_annotations()
+        check_modules(program, folder)
         check_hardware(program)
         check_steps(program)
         check_recipes(program, folder)
